@@ -48,4 +48,3 @@ cut-top (fin false m e) g h = capped (m * up e / down e) (le-div-iff-mul-le (dow
   where
     at : (b d : ℕ) → 18446744073709551616 * d ≤ b * 1 → 18446744073709551616 * d ≤ b
     at b d h = omega arith
-
