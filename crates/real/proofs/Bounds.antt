@@ -4,10 +4,10 @@ use Prim.Native.Nat.{ℕ, zero, suc, _+_, _-_, _*_, _^_, _≤_, _<_}
 use native.Mathlib.Nat.{mul-one, one-mul, mul-assoc, mul-comm, mul-right-comm, mul-mul-mul-comm, add-mul, mul-le-mul, mul-le-mul-left, mul-le-mul-right, le-of-mul-le-mul-right, le-of-lt, le-of-eq, le-trans, mul-pos, zero-lt-suc, eq-or-lt-of-le}
 use native.Mathlib.Omega.{arith}
 use mathlib.Core.Path.{_≡_, refl, sym, ap, _∙_, subst}
-use mathlib.Core.Bool.{Bool, true, false, cond, not, _&&_, _||_, Bool·beq}
+use mathlib.Core.Bool.{Bool, true, false, cond, _&&_, _||_, Bool·beq}
 use mathlib.Core.Logic.{inl, inr}
 use lib.IntN.{ℤ}
-use lib.Dec.{T, lit≤, lt→ltb, ltb, leb, eqb, ltb→lt, eqb→eq, eqb·suc-zero}
+use lib.Dec.{T, lit≤, lt→ltb, ltb, eqb, ltb→lt, eqb→eq, eqb·suc-zero}
 use lib.Ieee as Ieee
 use lib.Ieee.{Float, nan, inf, fin, Format, binary64, up, down, odd, units, round, sum, add, mul, div, le, lt, eq, neg}
 use lib.Ieee.Exact.{HasValue}
@@ -188,8 +188,8 @@ div-within (fin s m e) (fin t zero d) k a l h g = absurd g
 div-within (fin s m e) (fin t (suc n) d) k a l h g =
     let N = suc n * up d in
     let same : k * a * down e * down d ≡ a * (k * down d * down e) =
-        ap (λ (z : ℕ). z * down e * down d) (mul-comm k a) ∙ mul-right-comm (a * k) (down e) (down d)
-        ∙ ap (λ (z : ℕ). z * down e) (mul-assoc a k (down d)) ∙ mul-assoc a (k * down d) (down e) in
+    ap (λ (z : ℕ). z * down e * down d) (mul-comm k a) ∙ mul-right-comm (a * k) (down e) (down d)
+    ∙ ap (λ (z : ℕ). z * down e) (mul-assoc a k (down d)) ∙ mul-assoc a (k * down d) (down e) in
     rw (eqb·suc-zero n)
     (round-below (Ieee.unlike s t) (m * up e * down d) (N * down e) a l (mul-pos (up-some n d) (down-pos e))
     (le-trans (mul-le-mul-right (down d) h) (le-trans (le-of-eq same) (mul-le-mul-left a (mul-le-mul-right (down e) g)))))

@@ -1,9 +1,9 @@
 -- The series c and s of 01, in the operations of f64 and in their order. Assumes nothing: these are definitions.
 use Prim.Native.Nat.{ℕ, zero, suc}
-use mathlib.Core.Bool.{Bool, true, false, cond, not}
+use mathlib.Core.Bool.{Bool, false, cond, not}
 use mathlib.Core.List.{List, [], _∷_}
 use lib.Ieee.{Float, neg}
-use Rattle.real.specs.F64.{_⊕_, _⊖_, _⊗_, _⊘_, bits, f0, f1, f2, f4, f6, finite, sizeOf, _≤ᶠ_}
+use Rattle.real.specs.F64.{_⊕_, _⊖_, _⊗_, _⊘_, bits, f1, f2, f4, f6, finite, sizeOf, _≤ᶠ_}
 use Rattle.real.specs.declared.Answer.{Answer}
 use Rattle.real.specs.declared.Answer.the-variants.{Value, Refused}
 

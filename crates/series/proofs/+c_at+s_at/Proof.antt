@@ -1,8 +1,8 @@
 -- The proof of the cycle of calls {c_at, s_at}. Each one's measure is the number of quarterings left. Assumes nothing.
 use borrow.Author.Needs.{needs}
 use native.Mathlib.Omega.{arith}
-use mathlib.Core.Path.{_≡_, refl, sym, _∙_, ap, subst}
-use mathlib.Core.Bool.{Bool, true, false, cond}
+use mathlib.Core.Path.{_≡_, refl, sym, _∙_}
+use mathlib.Core.Bool.{true, false}
 use Prim.Native.Nat.{ℕ, zero, suc, _<_, _-_}
 use lib.Ieee.{Float}
 use Rattle.real.specs.F64.{_⊘_, f4}
