@@ -1,7 +1,8 @@
 -- The formulas that the conic routines share, in the operations of f64 and in their order. Assumes nothing: these are definitions.
 use Prim.Native.Nat.{ℕ}
-use lib.Ieee.{Float}
-use Rattle.real.specs.F64.{_⊕_, _⊖_, _⊗_, _⊘_, _≤ᶠ_, _<ᶠ_, two^, f1, sizeOf}
+use lib.IntN.{ℤ}
+use lib.Ieee.{Float, binary64, ofInt}
+use Rattle.real.specs.F64.{_⊕_, _⊖_, _⊗_, _⊘_, _≤ᶠ_, _<ᶠ_, two^, two^-, f1, sizeOf}
 use Rattle.real.specs.declared.Answer.{Answer}
 use Rattle.real.specs.declared.Answer.the-variants.{Value, Refused}
 use Rattle.series.specs.Series.{cAnswer, sAnswer}
@@ -12,6 +13,10 @@ use Rattle.vector.specs.Rows.{holdsOf}
 use Rattle.conic.specs.declared.Orbit.{Orbit}
 use Rattle.conic.specs.declared.Trial.{Trial}
 use Rattle.conic.specs.declared.Trial.the-variants.{At, Out}
+
+-- n·2^-20
+abbrev pub gridOf : ℤ → Float
+gridOf n = ofInt binary64 n ⊗ two^- 20
 
 -- c2 = |r|·(v·v)/mu − 1
 abbrev pub c2Of : Float → Vector → Float → Float

@@ -1,9 +1,9 @@
-// What the conic routines share: two derived numbers with their rows, and the time at a grid point.
+// What the conic routines share: the grid, two derived numbers with their rows, and the time of a trial.
 use real::Answer;
 use vector::Test;
 use vector::Vector;
 ghost use mathlib.Core.Path.{_≡_};
-ghost use Rattle.conic.specs.Conic.{c2Of, pOf, c2Row, pRow, timeOf, pointAt};
+ghost use Rattle.conic.specs.Conic.{gridOf, c2Of, pOf, c2Row, pRow, timeOf, pointAt};
 
 // What the trials of one solve share.
 pub struct Orbit {
@@ -27,6 +27,13 @@ pub struct Point {
 pub enum Trial {
     At(Point),
     Out,
+}
+
+// n·2^-20: the grid of Kepler's x and of Lambert's cot.
+pub fn grid(n: i64) -> f64
+    ensures { λ r. ⌜ r ≡ gridOf n ⌝ }
+{
+    std::num::nearest_i64_to_f64(n) * 9.5367431640625e-7
 }
 
 // c2 of a state, from r1 = |r|.
