@@ -2,23 +2,23 @@
 -- its points are the run's own, and none is left exactly at neighbours. Assumes nothing.
 use Prim.Native.Nat.{ℕ, zero, suc, _+_, _*_, _^_, _≤_, _<_}
 use native.Mathlib.Omega.{arith}
-use mathlib.Core.Path.{_≡_, refl, sym, ap, _∙_}
+use mathlib.Core.Path.{_≡_, refl, sym, _∙_, subst}
 use mathlib.Core.Bool.{Bool, true, false, cond, _||_, true≢false}
-use borrow.Author.Tests.{ltb-false, lt-ltb, le-ltb, eq-eqb}
+use borrow.Author.Tests.{ltb-true, ltb-false, lt-ltb, eq-eqb}
 use lib.Dec.{T, ltb, eqb}
 use lib.IntN.{ℤ, pos, negℤ}
-use lib.Signed.{ltZ, leZ, _<ℤ_, _≤ℤ_}
+use lib.Signed.{ltZ, leZ, _<ℤ_, _≤ℤ_, ltZ-yes, leZ-yes}
 use lib.Ieee.{Float, nan, inf, fin, up, down, below, level, lt, le, eq, ofBits}
 use Rattle.real.specs.F64.{_≤ᶠ_, finite}
 use Rattle.iterator.specs.Judged.{inTime, judgedOf}
 use Rattle.iterator.specs.Rule.{Grid, widthOf}
-use Rattle.iterator.specs.Run.{narrowed, nextPoint, next, run}
+use Rattle.iterator.specs.Run.{narrowed, nextPoint, next, more, run}
 use Rattle.iterator.specs.Single.{timeFinite, allFinite, inGrid, timeInTime, allInTime, isBelow, isAbove, agrees, endsAgree, soundOf, trialOf}
 use Rattle.iterator.specs.declared.Judgement.{Judgement}
 use Rattle.iterator.specs.declared.Judgement.the-variants.{Low, High, Under, Over}
 use Rattle.iterator.specs.declared.Bracket.{Bracket}
 use Rattle.iterator.specs.declared.Tried.the-variants.{Point, NoneLeft, Refused}
-use Rattle.iterator.proofs.Tests.{both}
+use Rattle.iterator.proofs.Tests.{and-0, and-1, both}
 use Rattle.iterator.proofs.Whole.{lt-le, le-trans}
 use Rattle.iterator.proofs.Grids.{in-grid}
 use Rattle.iterator.proofs.Trials.{inside}
@@ -43,6 +43,12 @@ pub record Sound (asked : Float) (s : Bracket) : Type 0 where
   pub below-agrees : agrees asked (s .below) ≡ true
   pub above-agrees : agrees asked (s .above) ≡ true
 
+zero-one : _≡_ {A = ℕ} 0 1 → ⊥
+zero-one z = omega arith
+
+of-true : {t : Bool} → t ≡ true → T t
+of-true e = subst T (sym e) tt
+
 is-true : (t : Bool) → T t → t ≡ true
 is-true true h = refl
 is-true false h = absurd h
@@ -60,6 +66,30 @@ sound-is {asked} {s} h =
     both (inGrid (s .lo) (s .hi)) _ (in-grid-is h)
     (both (allInTime asked (s .below) (s .above)) _ (both (inTime asked) _ (h .asked-in) (both (timeInTime (s .below)) _ (h .below-in) (h .above-in)))
     (both (isBelow (s .below)) _ (h .lower) (both (isAbove (s .above)) _ (h .upper) (both (agrees asked (s .below)) _ (h .below-agrees) (h .above-agrees)))))
+
+pub sound-of : (asked : Float) (s : Bracket) → soundOf asked (s .lo) (s .hi) (s .below) (s .above) ≡ true → Sound asked s
+unfolding soundOf inGrid allInTime endsAgree
+sound-of asked s e =
+    let g = and-0 (inGrid (s .lo) (s .hi)) _ e in
+    let f = and-1 (inGrid (s .lo) (s .hi)) _ e in
+    let a = and-0 (allInTime asked (s .below) (s .above)) _ f in
+    let b = and-1 (allInTime asked (s .below) (s .above)) _ f in
+    let g1 = and-1 (leZ (negℤ (pos (2 ^ 37))) (s .lo)) _ g in
+    let a1 = and-1 (inTime asked) _ a in
+    let b1 = and-1 (isBelow (s .below)) _ b in
+    let b2 = and-1 (isAbove (s .above)) _ b1 in
+    record {
+      from = leZ-yes (of-true (and-0 (leZ (negℤ (pos (2 ^ 37))) (s .lo)) _ g));
+      order = ltZ-yes (of-true (and-0 (ltZ (s .lo) (s .hi)) _ g1));
+      to = leZ-yes (of-true (and-1 (ltZ (s .lo) (s .hi)) _ g1));
+      asked-in = and-0 (inTime asked) _ a;
+      below-in = and-0 (timeInTime (s .below)) _ a1;
+      above-in = and-1 (timeInTime (s .below)) _ a1;
+      lower = and-0 (isBelow (s .below)) _ b;
+      upper = and-0 (isAbove (s .above)) _ b1;
+      below-agrees = and-0 (agrees asked (s .below)) _ b2;
+      above-agrees = and-1 (agrees asked (s .below)) _ b2;
+    }
 
 -- ---- a time within range is finite
 pub in-time-finite : (t : Float) → inTime t ≡ true → finite t ≡ true
@@ -207,23 +237,31 @@ module _ (judge : ℤ → Judgement) (asked : Float) (told : (n : ℤ) → Told 
   pub run-sound : (s : Bracket) → Sound asked s → Sound asked (run judge asked s)
   run-sound s h = run-keeps judge asked (Sound asked) next-sound s h
 
--- ---- the single trial on a sound bracket: the run's next point, or none at neighbours; so never a refusal
-trial-is : {asked : Float} {s : Bracket} → Sound asked s
-    → trialOf asked (s .lo) (s .hi) (s .below) (s .above) (s .count + 1) ≡ cond (ltb 1 (widthOf (s .lo) (s .hi))) (Point (nextPoint asked s)) NoneLeft
+-- ---- the single trial on a sound bracket: the run's next point, or none left at neighbours; so never a refusal
+pub trial-is : {asked : Float} {s : Bracket} → Sound asked s
+    → trialOf asked (s .lo) (s .hi) (s .below) (s .above) (s .count + 1) ≡ cond (more s) (Point (nextPoint asked s)) NoneLeft
 unfolding trialOf
 trial-is {asked} {s} h = simp (finite-is h, sound-is h)
 
-pub trial-point : {asked : Float} {s : Bracket} → Sound asked s → 1 < widthOf (s .lo) (s .hi)
-    → trialOf asked (s .lo) (s .hi) (s .below) (s .above) (s .count + 1) ≡ Point (nextPoint asked s)
-trial-point {asked} {s} h w = trial-is h ∙ ap (λ (t : Bool). cond t (Point (nextPoint asked s)) NoneLeft) (lt-ltb 1 (widthOf (s .lo) (s .hi)) w)
+-- the same, from what it answers
+module _ {asked : Float} {s : Bracket} (h : Sound asked s) where
+  pub at-point : (n : ℤ) → trialOf asked (s .lo) (s .hi) (s .below) (s .above) (s .count + 1) ≡ Point n → (1 < widthOf (s .lo) (s .hi)) × (n ≡ nextPoint asked s)
+  at-point n e = go (more s) refl (sym e ∙ trial-is h)
+    where
+      go : (t : Bool) → more s ≡ t → Point n ≡ cond t (Point (nextPoint asked s)) NoneLeft → (1 < widthOf (s .lo) (s .hi)) × (n ≡ nextPoint asked s)
+      go true t q = (ltb-true 1 (widthOf (s .lo) (s .hi)) t, cc)
+      go false t q = let z : _≡_ {A = ℕ} 0 1 = cc in absurd (zero-one z)
 
-pub trial-none : {asked : Float} {s : Bracket} → Sound asked s → widthOf (s .lo) (s .hi) ≤ 1
-    → trialOf asked (s .lo) (s .hi) (s .below) (s .above) (s .count + 1) ≡ NoneLeft
-trial-none {asked} {s} h w = trial-is h ∙ ap (λ (t : Bool). cond t (Point (nextPoint asked s)) NoneLeft) (le-ltb 1 (widthOf (s .lo) (s .hi)) w)
+  pub at-none : trialOf asked (s .lo) (s .hi) (s .below) (s .above) (s .count + 1) ≡ NoneLeft → widthOf (s .lo) (s .hi) ≤ 1
+  at-none e = go (more s) refl (sym e ∙ trial-is h)
+    where
+      go : (t : Bool) → more s ≡ t → NoneLeft ≡ cond t (Point (nextPoint asked s)) NoneLeft → widthOf (s .lo) (s .hi) ≤ 1
+      go true t q = let z : _≡_ {A = ℕ} 0 1 = cc in absurd (zero-one z)
+      go false t q = ltb-false 1 (widthOf (s .lo) (s .hi)) t
 
-pub never-refused : {asked : Float} {s : Bracket} → Sound asked s → (n : ℕ) → trialOf asked (s .lo) (s .hi) (s .below) (s .above) (s .count + 1) ≡ Refused n → ⊥
-never-refused {asked} {s} h n e = go (ltb 1 (widthOf (s .lo) (s .hi))) (sym e ∙ trial-is h)
-  where
-    go : (t : Bool) → Refused n ≡ cond t (Point (nextPoint asked s)) NoneLeft → ⊥
-    go true q = let z : _≡_ {A = ℕ} 0 1 = cc in omega arith
-    go false q = let z : _≡_ {A = ℕ} 0 1 = cc in omega arith
+  pub never-refused : (n : ℕ) → trialOf asked (s .lo) (s .hi) (s .below) (s .above) (s .count + 1) ≡ Refused n → ⊥
+  never-refused n e = go (more s) (sym e ∙ trial-is h)
+    where
+      go : (t : Bool) → Refused n ≡ cond t (Point (nextPoint asked s)) NoneLeft → ⊥
+      go true q = let z : _≡_ {A = ℕ} 0 1 = cc in zero-one z
+      go false q = let z : _≡_ {A = ℕ} 0 1 = cc in zero-one z
