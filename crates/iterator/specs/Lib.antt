@@ -1,0 +1,4 @@
+pub mod Judged
+pub mod Rule
+pub mod Run
+pub mod Single

@@ -1,0 +1,243 @@
+// The iterator: the judgement of a trial, the rule by which each trial's point is chosen, and the
+// single trial called from outside.
+ghost use mathlib.Core.Path.{_≡_};
+ghost use Prim.Native.Nat.{_<_};
+ghost use Rattle.iterator.specs.Judged.{inTime, judgedOf};
+ghost use Rattle.iterator.specs.Rule.{Grid, widthOf, within, secantOf, strideOf, pointOf};
+ghost use Rattle.iterator.specs.Single.{timeFinite, allFinite, inGrid, timeInTime, allInTime};
+ghost use Rattle.iterator.specs.Single.{isBelow, agrees, endsAgree, soundOf, trialOf};
+
+// Low and high carry the time found; under is too fast and over too slow to have one.
+pub enum Judgement {
+    Low(f64),
+    High(f64),
+    Under,
+    Over,
+}
+
+// Whole numbers lo < hi with their judgements, and the number of trials made.
+pub struct Bracket {
+    pub lo: i64,
+    pub hi: i64,
+    pub below: Judgement,
+    pub above: Judgement,
+    pub count: u64,
+}
+
+// What a single trial answers: its point, that none is left, or a refusal's number.
+pub enum Tried {
+    Point(i64),
+    NoneLeft,
+    Refused(u32),
+}
+
+// Times lie within -2^28..2^28, and ends within -2^37..2^37.
+const LEAST_TIME: f64 = -268435456.0;
+
+const MOST_TIME: f64 = 268435456.0;
+
+const LEAST_END: i64 = -137438953472;
+
+const MOST_END: i64 = 137438953472;
+
+// t lies within -2^28..2^28; a NaN does not.
+pub fn in_time(t: f64) -> bool
+    ensures { λ r. ⌜ r ≡ inTime t ⌝ }
+{
+    if LEAST_TIME <= t {
+        t <= MOST_TIME
+    } else {
+        false
+    }
+}
+
+// A computed time, judged.
+pub fn judged(asked: f64, t: f64) -> Judgement
+    ensures { λ r. ⌜ r ≡ judgedOf asked t ⌝ }
+{
+    if !in_time(t) {
+        return Judgement::Over;
+    }
+    if t <= asked {
+        return Judgement::Low(t);
+    }
+    Judgement::High(t)
+}
+
+// d brought into 1..w-1.
+fn brought(d: u64, w: u64) -> u64
+    requires { ⌜ 1 < w ⌝ }
+    ensures { λ r. ⌜ r ≡ within d w ⌝ }
+{
+    if d < 1 {
+        return 1;
+    }
+    if w - 1 < d {
+        return w - 1;
+    }
+    d
+}
+
+// By the times at the two ends: q of the way, cut to a whole number.
+fn secant(asked: f64, w: u64, below: f64, above: f64) -> u64
+    requires { ⌜ 1 < w ⌝ }
+    ensures { λ r. ⌜ r ≡ secantOf asked w below above ⌝ }
+{
+    let q = (asked - below) / (above - below);
+    brought(real::cut(q * std::num::nearest_u64_to_f64(w)), w)
+}
+
+// How far above lo the k-th trial lies, in a bracket w wide.
+fn stride(asked: f64, w: u64, below: Judgement, above: Judgement, k: u64) -> u64
+    requires { ⌜ 1 < w ⌝ }
+    ensures { λ r. ⌜ r ≡ strideOf asked w below above k ⌝ }
+{
+    if k % 2 == 0 {
+        return w / 2;
+    }
+    let Judgement::Low(a) = below else {
+        return w / 2;
+    };
+    let Judgement::High(b) = above else {
+        return w / 2;
+    };
+    secant(asked, w, a, b)
+}
+
+fn width(lo: i64, hi: i64) -> u64
+    requires { ⌜ Grid lo hi ⌝ }
+    ensures { λ r. ⌜ r ≡ widthOf lo hi ⌝ }
+{
+    (hi - lo) as u64
+}
+
+// The k-th trial's point, in a bracket wider than 1.
+fn place(asked: f64, lo: i64, hi: i64, below: Judgement, above: Judgement, k: u64) -> i64
+    requires { ⌜ Grid lo hi ⌝ ∗ ⌜ 1 < widthOf lo hi ⌝ }
+    ensures { λ r. ⌜ r ≡ pointOf asked lo hi below above k ⌝ }
+{
+    let d = stride(asked, width(lo, hi), below, above, k);
+    lo + (d as i64)
+}
+
+fn time_finite(j: Judgement) -> bool
+    ensures { λ r. ⌜ r ≡ timeFinite j ⌝ }
+{
+    match j {
+        Judgement::Low(t) => real::is_finite(t),
+        Judgement::High(t) => real::is_finite(t),
+        Judgement::Under => true,
+        Judgement::Over => true,
+    }
+}
+
+fn all_finite(asked: f64, below: Judgement, above: Judgement) -> bool
+    ensures { λ r. ⌜ r ≡ allFinite asked below above ⌝ }
+{
+    if !real::is_finite(asked) {
+        return false;
+    }
+    if !time_finite(below) {
+        return false;
+    }
+    time_finite(above)
+}
+
+fn in_grid(lo: i64, hi: i64) -> bool
+    ensures { λ r. ⌜ r ≡ inGrid lo hi ⌝ }
+{
+    if LEAST_END <= lo {
+        if lo < hi { hi <= MOST_END } else { false }
+    } else {
+        false
+    }
+}
+
+fn time_in_time(j: Judgement) -> bool
+    ensures { λ r. ⌜ r ≡ timeInTime j ⌝ }
+{
+    match j {
+        Judgement::Low(t) => in_time(t),
+        Judgement::High(t) => in_time(t),
+        Judgement::Under => true,
+        Judgement::Over => true,
+    }
+}
+
+fn all_in_time(asked: f64, below: Judgement, above: Judgement) -> bool
+    ensures { λ r. ⌜ r ≡ allInTime asked below above ⌝ }
+{
+    if !in_time(asked) {
+        return false;
+    }
+    if !time_in_time(below) {
+        return false;
+    }
+    time_in_time(above)
+}
+
+fn is_below(j: Judgement) -> bool
+    ensures { λ r. ⌜ r ≡ isBelow j ⌝ }
+{
+    match j {
+        Judgement::Low(_) => true,
+        Judgement::Under => true,
+        Judgement::High(_) => false,
+        Judgement::Over => false,
+    }
+}
+
+// A carried time agrees with its judgement.
+fn time_agrees(asked: f64, j: Judgement) -> bool
+    ensures { λ r. ⌜ r ≡ agrees asked j ⌝ }
+{
+    match j {
+        Judgement::Low(t) => t <= asked,
+        Judgement::High(t) => asked < t,
+        Judgement::Under => true,
+        Judgement::Over => true,
+    }
+}
+
+fn ends_agree(asked: f64, below: Judgement, above: Judgement) -> bool
+    ensures { λ r. ⌜ r ≡ endsAgree asked below above ⌝ }
+{
+    if !is_below(below) {
+        return false;
+    }
+    if is_below(above) {
+        return false;
+    }
+    if !time_agrees(asked, below) {
+        return false;
+    }
+    time_agrees(asked, above)
+}
+
+fn sound(asked: f64, lo: i64, hi: i64, below: Judgement, above: Judgement) -> bool
+    ensures { λ r. ⌜ r ≡ soundOf asked lo hi below above ⌝ }
+{
+    if !in_grid(lo, hi) {
+        return false;
+    }
+    if !all_in_time(asked, below, above) {
+        return false;
+    }
+    ends_agree(asked, below, above)
+}
+
+// A single trial called from outside, the k-th.
+pub fn trial(asked: f64, lo: i64, hi: i64, below: Judgement, above: Judgement, k: u64) -> Tried
+    ensures { λ r. ⌜ r ≡ trialOf asked lo hi below above k ⌝ }
+{
+    if !all_finite(asked, below, above) {
+        return Tried::Refused(1);
+    }
+    if !sound(asked, lo, hi, below, above) {
+        return Tried::Refused(6);
+    }
+    if 1 < width(lo, hi) {
+        return Tried::Point(place(asked, lo, hi, below, above, k));
+    }
+    Tried::NoneLeft
+}
