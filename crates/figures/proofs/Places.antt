@@ -40,7 +40,7 @@ front {d} {x} {e} {r} p =
     ap (take r) (f .1) ∙ take-at x (drop (length x) d) r (sym (f .0))
 
 -- the sign, the whole number and the point, and room for six digits behind them
-minus-short : (s : Bool) → length (minusText s) ≤ 1
+pub minus-short : (s : Bool) → length (minusText s) ≤ 1
 minus-short true = lit≤ tt
 minus-short false = lit≤ tt
 
