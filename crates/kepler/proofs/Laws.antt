@@ -1,17 +1,19 @@
 -- The refusal number of Kepler's tests is the first row's that applies; a state that is handed out is finite. Assumes nothing.
 use Prim.Native.Nat.{ℕ}
-use mathlib.Core.Path.{_≡_, refl, ap, _∙_, subst}
-use mathlib.Core.Bool.{true, cond}
-use mathlib.Core.List.{[], _∷_}
+use mathlib.Core.Path.{_≡_, refl, sym, ap, _∙_, subst}
+use mathlib.Core.Bool.{true, false, _&&_}
+use mathlib.Core.List.{List, [], _∷_}
 use lib.IntN.{ℤ}
 use lib.Ieee.{Float}
 use native.Mathlib.Omega.{arith}
+use Rattle.real.specs.F64.{finite}
 use Rattle.vector.specs.declared.State.{State}
 use Rattle.vector.specs.declared.rows.Test.{Test}
 use Rattle.vector.specs.declared.rows.Test.the-variants.{Passed, Failed}
 use Rattle.vector.specs.Vectors.{positionOf, velocityOf}
-use Rattle.vector.specs.Rows.{_▷_, numberOf, passes, row, firstOf, finiteNumber, finiteInputs, muRow, positionRow, velocityComponents, timeRow}
-use Rattle.vector.proofs.Table.{Finite, holds-numbered, both-numbered, then-assoc, then-number, last-number, finite-inputs, position-row, velocity-components, passes-left, passes-right, position-finite, velocity-finite}
+use Rattle.vector.specs.Rows.{_▷_, Row, numberOf, passes, row, firstOf, finiteNumber, finiteInputs, muRow, positionRow, velocityComponents, timeRow}
+use Rattle.vector.proofs.Table.{Finite, holds-numbered, both-numbered, then-assoc, then-passed, then-passes, holds-passes, chainOf, AllNumbered, chain-number, finite-inputs, position-row, velocity-components, passes-left, passes-right, position-finite, velocity-finite}
+use Rattle.vector.proofs.Inputs.{allFinite, inputs-finite}
 use Rattle.conic.specs.declared.Orbit.{Orbit}
 use Rattle.conic.specs.declared.Point.{Point}
 use Rattle.conic.specs.declared.Trial.{Trial}
@@ -41,22 +43,35 @@ module _ (mu : Float) (s : State) (t : Float) (m : Motion) where
   abbrev D : Test
   D = derivedRow (m .orbit)
 
-  in-a-row : keplerTests mu s t m ≡ A ▷ (M ▷ (P ▷ (W ▷ (T ▷ D))))
+  -- the rows in the order of the table
+  abbrev table : List Row
+  table = row 1 A ∷ row 2 M ∷ row 3 P ∷ row 4 W ∷ row 5 T ∷ row 6 D ∷ []
+
+  in-a-row : keplerTests mu s t m ≡ chainOf table
   in-a-row =
       then-assoc (A ▷ (M ▷ P ▷ W)) T D
       ∙ then-assoc A (M ▷ P ▷ W) (T ▷ D)
       ∙ ap (λ (x : Test). A ▷ x) (then-assoc (M ▷ P) W (T ▷ D) ∙ then-assoc M P (W ▷ (T ▷ D)))
+      ∙ ap (λ (x : Test). A ▷ (M ▷ (P ▷ (W ▷ (T ▷ x))))) (sym (then-passed D))
 
-  pub kepler-table : numberOf (keplerTests mu s t m) ≡ firstOf (row 1 A ∷ row 2 M ∷ row 3 P ∷ row 4 W ∷ row 5 T ∷ row 6 D ∷ [])
+  numbered : AllNumbered table
+  numbered =
+      (both-numbered 1 _ _ (finite-inputs mu (positionOf s) (velocityOf s)) (holds-numbered _ 1 3 0 t),
+      (holds-numbered _ 2 0 0 mu,
+      (position-row 1 (positionOf s) (m .orbit .r1),
+      (velocity-components 4 2 (velocityOf s),
+      (holds-numbered _ 5 3 0 t,
+      (both-numbered 6 _ _ (holds-numbered _ 6 0 0 (m .orbit .c1)) (holds-numbered _ 6 1 0 (m .orbit .c2)), tt))))))
+
+  pub kepler-table : numberOf (keplerTests mu s t m) ≡ firstOf table
+  kepler-table = ap numberOf in-a-row ∙ chain-number table numbered
+
+  -- an input that is infinite or not a number is refused with 1, whatever else holds
+  pub kepler-not-finite : (finite mu && allFinite (positionOf s) && allFinite (velocityOf s) && finite t) ≡ false → numberOf (keplerTests mu s t m) ≡ 1
   unfolding firstOf
-  kepler-table =
-      ap numberOf in-a-row
-      ∙ then-number 1 A _ (both-numbered 1 _ _ (finite-inputs mu (positionOf s) (velocityOf s)) (holds-numbered _ 1 3 0 t))
-      ∙ ap (λ (n : ℕ). cond (passes A) n 1) (then-number 2 M _ (holds-numbered _ 2 0 0 mu)
-      ∙ ap (λ (n : ℕ). cond (passes M) n 2) (then-number 3 P _ (position-row 1 (positionOf s) (m .orbit .r1))
-      ∙ ap (λ (n : ℕ). cond (passes P) n 3) (then-number 4 W _ (velocity-components 4 2 (velocityOf s))
-      ∙ ap (λ (n : ℕ). cond (passes W) n 4) (then-number 5 T D (holds-numbered _ 5 3 0 t)
-      ∙ ap (λ (n : ℕ). cond (passes T) n 5) (last-number 6 D (both-numbered 6 _ _ (holds-numbered _ 6 0 0 (m .orbit .c1)) (holds-numbered _ 6 1 0 (m .orbit .c2))))))))
+  kepler-not-finite h =
+      let e : passes A ≡ false = then-passes (finiteInputs mu (positionOf s) (velocityOf s)) (finiteNumber 3 t) ∙ rw (inputs-finite, holds-passes) h in
+      kepler-table ∙ rw e
 
 -- ---- a state that is handed out is finite
 
