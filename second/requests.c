@@ -1,0 +1,593 @@
+/* Requests for the desk: orbits of every shape, the edges of every test, and lines that cannot be read. */
+#include "programs.h"
+
+#include "conic.h"
+#include "desk.h"
+#include "random.h"
+#include "real.h"
+
+#include <inttypes.h>
+#include <stdio.h>
+
+static series64 dice;
+
+static uint64_t below(uint64_t n)
+{
+    return next(&dice) % n;
+}
+
+static bool one_in(uint64_t n)
+{
+    return below(n) == 0;
+}
+
+static double uniform(double a, double b)
+{
+    return between(&dice, a, b);
+}
+
+/* 2^lo ≤ x < 2^hi, each power of two as often. */
+static double scaled(int lo, int hi)
+{
+    uint64_t exponent = (uint64_t)(1023 + lo) + below((uint64_t)(hi - lo));
+    return of_bits(exponent << 52 | next(&dice) >> 12);
+}
+
+static double either_sign(double x)
+{
+    return one_in(2) ? x : -x;
+}
+
+/* f64 in a row, from -NaN by -0 and +0 to NaN, so that neighbours differ by 1. */
+
+static const uint64_t sign_bit = UINT64_C(1) << 63;
+
+static int64_t key_of(double x)
+{
+    uint64_t bits = bits_of(x);
+    return bits & sign_bit ? -1 - (int64_t)(bits & ~sign_bit) : (int64_t)bits;
+}
+
+static double of_key(int64_t key)
+{
+    return of_bits(key < 0 ? sign_bit | (uint64_t)(-1 - key) : (uint64_t)key);
+}
+
+/* The limit, or its neighbour to either side. */
+static double near(double limit)
+{
+    return of_key(key_of(limit) + (int64_t)below(3) - 1);
+}
+
+static double oddity(void)
+{
+    static const uint64_t odd[] = {
+        0x0000000000000000, 0x0000000000000001, 0x000FFFFFFFFFFFFF, 0x0010000000000000, /* 0, subnormals */
+        0x3FF0000000000000, 0x7FEFFFFFFFFFFFFF, 0x7FF0000000000000,                     /* 1, largest, infinity */
+        0x7FF0000000000001, 0x7FF8000000000000, 0x7FFFFFFFFFFFFFFF,                     /* NaN */
+    };
+    uint64_t bits = one_in(6) ? next(&dice) : odd[below(sizeof odd / sizeof *odd)];
+    return of_bits(one_in(2) ? bits : bits ^ sign_bit);
+}
+
+/* Orbits. */
+
+typedef struct { double mu, energy; state at; } orbit; /* energy: |r|·(v·v)/mu, 1 in a circle, 2 in a parabola */
+
+static vector direction(void)
+{
+    for (;;) {
+        vector a = { uniform(-1, 1), uniform(-1, 1), uniform(-1, 1) };
+        if (dot(a, a) > 0.01 && dot(a, a) <= 1)
+            return over(a, length(a));
+    }
+}
+
+static vector across(vector u)
+{
+    for (;;) {
+        vector a = cross(u, direction());
+        if (length(a) > 0.1)
+            return over(a, length(a));
+    }
+}
+
+static double some_mu(void)
+{
+    static const double bodies[] = { 3.986032e10, 4.902778e8, 0x1p32 };
+    return one_in(4) ? scaled(28, 36) : bodies[below(3)];
+}
+
+/* Points of the unit circle by the tangent of half the angle. */
+static double cosine_of(double h)
+{
+    return (1 - h * h) / (1 + h * h);
+}
+
+static double sine_of(double h)
+{
+    return (h + h) / (1 + h * h);
+}
+
+/* The energy of a shape, and the half tangent of its angle to the upright. */
+static void some_shape(double *energy, double *h)
+{
+    *energy = 1;
+    *h = scaled(-3, 3);
+    switch (below(8)) {
+    case 0:
+        *h = 1; /* circular */
+        break;
+    case 1: case 2: case 3:
+        *energy = uniform(0.1, 1.9);
+        break;
+    case 4:
+        *energy = 2; /* parabolic, as near as it comes */
+        break;
+    case 5:
+        *energy = 2 + scaled(-4, 4);
+        break;
+    case 6:
+        *energy = uniform(0.1, 4);
+        *h = scaled(-24, -3); /* nearly straight */
+        break;
+    default:
+        *energy = scaled(-8, 7);
+        *h = scaled(-8, 8);
+    }
+}
+
+/* Whole powers of two on the axes, where much is exact and many components are 0. */
+static orbit round_orbit(void)
+{
+    orbit o = { 0x1p32, 1, { { 0x1p22, 0, 0 }, { 0, 32, 0 } } };
+    if (one_in(2))
+        o = (orbit){ 0x1p30, 1, { { 0, -0x1p24, 0 }, { 0, 0, 8 } } };
+    double faster = (double)(1 + below(4)) / 2;
+    o.energy = faster * faster;
+    o.at.v = times(faster, o.at.v);
+    return o;
+}
+
+static orbit some_orbit(void)
+{
+    if (one_in(16))
+        return round_orbit();
+    orbit o = { .mu = some_mu() };
+    double h;
+    some_shape(&o.energy, &h);
+    double least = o.energy * o.mu * 0x1p-14; /* slower than 2^7 from here outwards */
+    double r = (least < 0x1p18 ? 0x1p18 : least) * uniform(1, one_in(4) ? 64 : 8);
+    if (!(r < 0x1p29))
+        r = uniform(0x1p18, 0x1p29);
+    double speed = sqrt(o.energy * o.mu / r);
+    vector up = direction();
+    o.at.r = times(r, up);
+    o.at.v = times(speed, plus(times(either_sign(cosine_of(h)), up), times(sine_of(h), across(up))));
+    return o;
+}
+
+/* Mostly within one turn. */
+static double some_time(const orbit *o)
+{
+    double r = length(o->at.r), t;
+    if (one_in(12))
+        t = scaled(-30, 20);
+    else if (o->energy < 1.95) {
+        double a = r / (2 - o->energy);
+        t = 6.28 * a * sqrt(a / o->mu) * (one_in(12) ? uniform(0.9, 2) : uniform(0, 1));
+    } else
+        t = r * sqrt(r / o->mu) * scaled(-6, 4);
+    return t <= 0x1p28 ? t : uniform(0, 0x1p28);
+}
+
+/* A request of each routine that it could get in earnest. */
+
+static void put_vector(word *w, vector a)
+{
+    w[0].number = a.x;
+    w[1].number = a.y;
+    w[2].number = a.z;
+}
+
+static void put_orbit(request *q, const orbit *o)
+{
+    q->words[0].number = o->mu;
+    put_vector(q->words + 1, o->at.r);
+    put_vector(q->words + 4, o->at.v);
+}
+
+static double some_xi(void)
+{
+    static const double limits[] = { -50, 39.46875, 1, -1, 4, -4, 16, -16, 0 };
+    switch (below(4)) {
+    case 0:
+        return near(limits[below(sizeof limits / sizeof *limits)]);
+    case 1:
+        return either_sign(scaled(-40, 8));
+    case 2:
+        return one_in(3) ? oddity() : uniform(-1, 1);
+    default:
+        return uniform(-50.5, 40);
+    }
+}
+
+static double some_square(void)
+{
+    switch (below(4)) {
+    case 0:
+        return oddity();
+    case 1: {
+        double whole = (double)below(UINT64_C(1) << 26);
+        return near(whole * whole);
+    }
+    case 2:
+        return either_sign(of_bits(below(UINT64_C(1) << 53)));
+    default:
+        return of_bits(next(&dice) & ~(one_in(8) ? 0 : sign_bit));
+    }
+}
+
+static judgement some_end(double asked, bool upper)
+{
+    if (one_in(6))
+        return (judgement){ upper ? OVER : UNDER, 0 };
+    double away = one_in(8) ? 0 : one_in(8) ? 0x1p28 - fabs(asked) : scaled(-30, 27);
+    double t = upper ? asked + away : asked - away;
+    if (one_in(8))
+        t = near(asked);
+    if (one_in(24))
+        t = one_in(2) ? oddity() : either_sign(near(0x1p28));
+    return (judgement){ upper == !one_in(24) ? HIGH : LOW, t };
+}
+
+static int64_t some_whole(void)
+{
+    static const int64_t limits[] = { 0, INT64_C(1) << 37, -(INT64_C(1) << 37), INT64_MAX - 1, INT64_MIN + 1 };
+    if (one_in(8))
+        return limits[below(5)] + (int64_t)below(3) - 1;
+    return (int64_t)either_sign(scaled(0, 37));
+}
+
+static void some_trial(request *q)
+{
+    double asked = one_in(10) ? 0 : either_sign(scaled(-20, 27));
+    if (one_in(16))
+        asked = one_in(2) ? oddity() : either_sign(near(0x1p28));
+    int64_t lo = some_whole(), hi = one_in(3) ? some_whole() : lo / 2 + (int64_t)scaled(0, 36);
+    if (one_in(8) && lo < INT64_MAX - 2)
+        hi = lo + (int64_t)below(3);
+    if (lo > hi && !one_in(16)) {
+        int64_t other = lo;
+        lo = hi, hi = other;
+    }
+    q->words[0].number = asked;
+    q->words[1].whole = lo;
+    q->words[2].whole = hi;
+    q->words[3].judgement = some_end(asked, false);
+    q->words[4].judgement = some_end(asked, true);
+    q->words[5].count = one_in(8) ? 0 - below(3) : 1 + below(74);
+}
+
+/* From a point of an orbit to a later one, mostly in the orbit's own time and way round. */
+static void some_transfer(request *q)
+{
+    orbit o = some_orbit();
+    double t = some_time(&o);
+    solution later = kepler(o.mu, o.at, t);
+    vector to = times(length(o.at.r) * scaled(-2, 2), direction());
+    if (!later.refused && !one_in(16))
+        to = later.r;
+    bool short_way = dot(cross(o.at.r, to), cross(o.at.r, o.at.v)) >= 0;
+    if (one_in(4))
+        t = t * scaled(-4, 4);
+    put_orbit(q, &o);
+    put_vector(q->words + 4, to);
+    q->words[7].number = t;
+    q->words[8].long_way = short_way == one_in(8);
+}
+
+static void some_angle(word *w)
+{
+    double h = one_in(8) ? scaled(-12, 12) : scaled(-4, 5);
+    double sine = either_sign(sine_of(h)), cosine = cosine_of(h);
+    double longer = one_in(8) ? 1 + either_sign(0x1p-41) * uniform(0.99, 1.01) : 1;
+    w[0].number = sine * longer;
+    w[1].number = cosine * longer;
+}
+
+static request some_request(enum routine routine)
+{
+    request q = { .routine = routine };
+    orbit o = some_orbit();
+    switch (routine) {
+    case ROOT:
+        q.words[0].number = some_square();
+        break;
+    case C: case S:
+        q.words[0].number = some_xi();
+        break;
+    case TRIAL:
+        some_trial(&q);
+        break;
+    case LAMBERT:
+        some_transfer(&q);
+        break;
+    default:
+        put_orbit(&q, &o);
+        if (routine == KEPLER)
+            q.words[7].number = either_sign(some_time(&o));
+        if (routine == THETA)
+            some_angle(q.words + 7);
+    }
+    return q;
+}
+
+/* Edges. What a number of a solve stands for: mu, r a position, v a velocity, t a time, a an angle. */
+
+static const char *const meanings[ROUTINES] = {
+    [KEPLER] = "mrrrvvvt",
+    [LAMBERT] = "mrrrrrrt",
+    [THETA] = "mrrrvvvaa",
+    [APSIDES] = "mrrrvvv",
+};
+
+static double some_limit(char meaning)
+{
+    switch (meaning) {
+    case 'm':
+        return near(one_in(2) ? 0x1p28 : 0x1p36);
+    case 'r':
+        return either_sign(near(one_in(2) ? 0x1p18 : 0x1p29));
+    case 'v':
+        return either_sign(near(0x1p7));
+    case 't':
+        return either_sign(near(one_in(2) ? 0 : 0x1p28));
+    default:
+        return either_sign(near(one_in(3) ? 0 : one_in(2) ? 1 : 1 - 0x1p-20));
+    }
+}
+
+static size_t some_field(const request *q)
+{
+    return below(strlen(meanings[q->routine]));
+}
+
+/* One number set to a limit of its row or to an oddity; a position also along one axis alone. */
+static request at_a_limit(request q)
+{
+    size_t k = some_field(&q);
+    char meaning = meanings[q.routine][k];
+    if (meaning == 'r' && one_in(2))
+        put_vector(q.words + 1 + (k - 1) / 3 * 3, (vector){ 0, one_in(2) ? -0.0 : 0, 0 });
+    q.words[k].number = one_in(4) ? oddity() : some_limit(meaning);
+    return q;
+}
+
+/* The kind of an answer: its refusal, its grade, or its first word. */
+static void kind_of_answer(const request *q, char kind[16])
+{
+    char text[ANSWER_MAX];
+    answer_request(q, text);
+    const char *grade = strstr(text, "grade ");
+    if (text[0] == 'r')
+        snprintf(kind, 16, "%.15s", text);
+    else
+        sscanf(grade ? grade + 6 : text, "%15s", kind);
+}
+
+/* Halves the way from q to the request `other`, which differs in the number k alone, down to two
+ * neighbours, the first with an answer of q's kind and, if other's kind differs, the second not. */
+static void find_edge(request *q, request *other, size_t k)
+{
+    char kind[16], at_middle[16];
+    kind_of_answer(q, kind);
+    int64_t alike = key_of(q->words[k].number), unlike = key_of(other->words[k].number);
+    while ((alike < unlike ? (uint64_t)unlike - (uint64_t)alike : (uint64_t)alike - (uint64_t)unlike) > 1) {
+        int64_t middle = (alike & unlike) + ((alike ^ unlike) >> 1);
+        q->words[k].number = of_key(middle);
+        kind_of_answer(q, at_middle);
+        if (strcmp(kind, at_middle) == 0)
+            alike = middle;
+        else
+            unlike = middle;
+    }
+    q->words[k].number = of_key(alike);
+    other->words[k].number = of_key(unlike);
+}
+
+/* Lines. */
+
+typedef struct { char words[WORDS_MAX + 3][72]; int count; } spelling;
+typedef struct { char bytes[2000]; size_t length; } line;
+
+static void spell_number(char *out, double x, bool decimal)
+{
+    if (!decimal || !(fabs(x) < 1e14)) {
+        sprintf(out, one_in(8) ? "x%016" PRIx64 : "x%016" PRIX64, bits_of(x));
+        return;
+    }
+    int whole = snprintf(NULL, 0, "%" PRIu64, (uint64_t)fabs(x));
+    sprintf(out, one_in(8) ? "%+.*f" : "%.*f", (int)below((uint64_t)(16 - whole)), x);
+}
+
+static void spell_judgement(char *out, judgement j, bool decimal)
+{
+    static const char *const heads[] = { [UNDER] = "under", [LOW] = "low:", [HIGH] = "high:", [OVER] = "over" };
+    out += sprintf(out, "%s", heads[j.as]);
+    if (carries_time(j))
+        spell_number(out, j.time, decimal);
+}
+
+static void spell_word(char *out, char letter, word w, bool decimal)
+{
+    switch (letter) {
+    case 'n':
+        spell_number(out, w.number, decimal);
+        break;
+    case 'i':
+        sprintf(out, one_in(16) ? "%020" PRId64 : "%" PRId64, w.whole);
+        break;
+    case 'k':
+        sprintf(out, "%" PRIu64, w.count);
+        break;
+    case 'j':
+        spell_judgement(out, w.judgement, decimal);
+        break;
+    default:
+        strcpy(out, w.long_way ? "long" : "short");
+    }
+}
+
+static spelling spelled(const request *q, bool decimal)
+{
+    spelling s = { .count = 1 };
+    strcpy(s.words[0], forms[q->routine].name);
+    for (const char *letter = forms[q->routine].words; *letter; letter++, s.count++)
+        spell_word(s.words[s.count], *letter, q->words[s.count - 1], decimal);
+    return s;
+}
+
+static line joined(const spelling *s)
+{
+    static const char *const blanks[] = { " ", "  ", "\t", " \t ", "\r", "     " };
+    bool wide = one_in(16);
+    line l = { .length = 0 };
+    if (wide && one_in(2))
+        l.bytes[l.length++] = ' ';
+    for (int k = 0; k < s->count; k++) {
+        const char *blank = k == 0 ? "" : wide ? blanks[below(6)] : " ";
+        l.length += (size_t)sprintf(l.bytes + l.length, "%s%s", blank, s->words[k]);
+    }
+    if (wide && one_in(2))
+        l.bytes[l.length++] = '\r';
+    return l;
+}
+
+static void pad(line *l, size_t length)
+{
+    char with = one_in(2) ? ' ' : '7';
+    while (l->length < length)
+        l->bytes[l->length++] = with;
+}
+
+static const char *bad_word(void)
+{
+    static const char *const bad[] = {
+        "x", "x123", "x3FF000000000000", "x3FF00000000000000", "x3FF000000000000G", "X3FF0000000000000",
+        "0x3FF0000000000000", "-x3FF0000000000000", "-", "+", ".", "1.", ".5", "-.5", "1..2", "1.2.3", "+-1",
+        "--1", "1e5", "1,5", "1234567890123456", "1.234567890123456", "0000000000000001", "000000000000001",
+        "nan", "inf", "low:", "low", "low:-", "high:x", "high:1.", "LOW:1", "under:1", "over:", "under", "over",
+        "high:-0", "low:+0.5", "18446744073709551615", "18446744073709551616", "9223372036854775807",
+        "9223372036854775808", "-9223372036854775808", "-9223372036854775809", "+5", "-0", "5-", "\xCE\xBE",
+        "short", "long", "Short", "shorter", "#",
+    };
+    return bad[below(sizeof bad / sizeof *bad)];
+}
+
+static void spoil_words(spelling *s)
+{
+    int k = (int)below((uint64_t)s->count);
+    switch (below(5)) {
+    case 0:
+        s->count = 1 + k; /* a missing word, or none missing */
+        break;
+    case 1:
+        strcpy(s->words[s->count++], bad_word());
+        break;
+    case 2:
+        strcpy(s->words[0], one_in(2) ? bad_word() : "Root");
+        break;
+    default:
+        strcpy(s->words[k], bad_word());
+    }
+}
+
+static line some_spoilt_line(void)
+{
+    request q = some_request((enum routine)below(ROUTINES));
+    spelling s = spelled(&q, one_in(4));
+    if (!one_in(4))
+        spoil_words(&s);
+    line l = joined(&s);
+    switch (below(16)) {
+    case 0:
+        pad(&l, LINE_MAX - 1 + below(4));
+        break;
+    case 1:
+        l.bytes[below(l.length)] = (char)below(256);
+        break;
+    case 2:
+        l.bytes[0] = '#';
+        break;
+    case 3:
+        l.length = below(2);
+        l.bytes[0] = ' ';
+        break;
+    }
+    for (size_t k = 0; k < l.length; k++)
+        if (l.bytes[k] == '\n')
+            l.bytes[k] = '\v';
+    return l;
+}
+
+/* The count is of lines that get an answer. */
+
+static uint64_t left;
+
+static void emit(line l)
+{
+    request q;
+    if (left == 0)
+        return;
+    fwrite(l.bytes, 1, l.length, stdout);
+    putchar('\n');
+    left -= read_request(l.bytes, l.length, &q) != NOTHING;
+}
+
+static void emit_request(const request *q, bool decimal)
+{
+    spelling s = spelled(q, decimal);
+    emit(joined(&s));
+}
+
+/* A number of q changed by much: drawn anew, many times larger or smaller, or at a limit. */
+static void emit_edge(request q)
+{
+    size_t k = some_field(&q);
+    request other = q, fresh = some_request(q.routine);
+    double x = q.words[k].number, factor = scaled(0, 20);
+    double far[] = { fresh.words[k].number, x * factor, x / factor, some_limit(meanings[q.routine][k]) };
+    other.words[k].number = far[below(4)];
+    find_edge(&q, &other, k);
+    emit_request(&q, false);
+    emit_request(&other, false);
+}
+
+static void emit_some(void)
+{
+    static const enum routine often[] = {
+        ROOT, C, S, TRIAL, TRIAL, KEPLER, KEPLER, KEPLER, KEPLER, LAMBERT, LAMBERT, LAMBERT, LAMBERT,
+        THETA, THETA, APSIDES,
+    };
+    if (one_in(20)) {
+        emit(some_spoilt_line());
+        return;
+    }
+    request q = some_request(often[below(sizeof often / sizeof *often)]);
+    if (!meanings[q.routine] || below(10) < 6)
+        emit_request(&q, one_in(4));
+    else if (one_in(2)) {
+        q = at_a_limit(q);
+        emit_request(&q, false);
+    } else
+        emit_edge(q);
+}
+
+void make_requests(uint64_t seed, uint64_t count)
+{
+    dice.state = seed;
+    left = count;
+    while (left > 0)
+        emit_some();
+}
