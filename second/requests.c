@@ -232,7 +232,7 @@ static judgement some_end(double asked, bool upper)
 {
     if (one_in(6))
         return (judgement){ upper ? OVER : UNDER, 0 };
-    double away = one_in(8) ? 0 : one_in(8) ? 0x1p28 - fabs(asked) : scaled(-30, 27);
+    double away = one_in(16) ? 0 : one_in(8) ? 0x1p28 - fabs(asked) : scaled(-30, 27);
     double t = upper ? asked + away : asked - away;
     if (one_in(8))
         t = near(asked);
@@ -280,20 +280,35 @@ static void some_transfer(request *q)
         to = later.r;
     bool short_way = dot(cross(o.at.r, to), cross(o.at.r, o.at.v)) >= 0;
     if (one_in(4))
-        t = t * scaled(-4, 4);
+        t = t * scaled(-4, 10);
     put_orbit(q, &o);
     put_vector(q->words + 4, to);
     q->words[7].number = t;
     q->words[8].long_way = short_way == one_in(8);
 }
 
-static void some_angle(word *w)
+/* The half tangent at which an orbit stops having a time, or starts to, between a and b. */
+static double last_angle(const orbit *o, double a, double b)
 {
-    double h = one_in(8) ? scaled(-12, 12) : scaled(-4, 5);
-    double sine = either_sign(sine_of(h)), cosine = cosine_of(h);
+    int refused = time_theta(o->mu, o->at, sine_of(a), cosine_of(a)).refused;
+    for (int k = 0; k < 60; k++) {
+        double h = (a + b) / 2;
+        if (time_theta(o->mu, o->at, sine_of(h), cosine_of(h)).refused == refused)
+            a = h;
+        else
+            b = h;
+    }
+    return one_in(2) ? a : b;
+}
+
+static void some_angle(word *w, const orbit *o)
+{
+    double h = either_sign(one_in(8) ? scaled(-12, 12) : scaled(-4, 5));
+    if (one_in(o->energy > 2 ? 2 : 8))
+        h = last_angle(o, scaled(-4, 0), scaled(0, 5)) * (1 + either_sign(scaled(-50, -8)));
     double longer = one_in(8) ? 1 + either_sign(0x1p-41) * uniform(0.99, 1.01) : 1;
-    w[0].number = sine * longer;
-    w[1].number = cosine * longer;
+    w[0].number = sine_of(h) * longer;
+    w[1].number = cosine_of(h) * longer;
 }
 
 static request some_request(enum routine routine)
@@ -318,7 +333,7 @@ static request some_request(enum routine routine)
         if (routine == KEPLER)
             q.words[7].number = either_sign(some_time(&o));
         if (routine == THETA)
-            some_angle(q.words + 7);
+            some_angle(q.words + 7, &o);
     }
     return q;
 }
@@ -348,9 +363,11 @@ static double some_limit(char meaning)
     }
 }
 
+/* The last of them is a time or an angle for most, and worth more than a component. */
 static size_t some_field(const request *q)
 {
-    return below(strlen(meanings[q->routine]));
+    size_t count = strlen(meanings[q->routine]);
+    return one_in(6) ? count - 1 : below(count);
 }
 
 /* One number set to a limit of its row or to an oddity; a position also along one axis alone. */
