@@ -3,6 +3,7 @@
 
 #include "conic.h"
 #include "desk.h"
+#include "edges.h"
 #include "random.h"
 #include "real.h"
 
@@ -303,7 +304,7 @@ static double last_angle(const orbit *o, double a, double b)
 
 static void some_angle(word *w, const orbit *o)
 {
-    double h = either_sign(one_in(8) ? scaled(-12, 12) : scaled(-4, 5));
+    double h = either_sign(one_in(8) ? scaled(-10, 10) : scaled(-4, 5));
     if (one_in(o->energy > 2 ? 2 : 8))
         h = last_angle(o, scaled(-4, 0), scaled(0, 5)) * (1 + either_sign(scaled(-50, -8)));
     double longer = one_in(8) ? 1 + either_sign(0x1p-41) * uniform(0.99, 1.01) : 1;
@@ -581,6 +582,25 @@ static void emit_edge(request q)
     emit_request(&other, false);
 }
 
+static void emit_text(const char *text)
+{
+    line l = { .length = strlen(text) };
+    memcpy(l.bytes, text, l.length);
+    emit(l);
+}
+
+/* One of the stored edges, a number of it moved to a neighbour. */
+static void emit_beside_an_edge(void)
+{
+    const char *text = edges[below(edge_count)];
+    request q;
+    read_request(text, strlen(text), &q);
+    size_t k = below(strlen(forms[q.routine].words));
+    if (forms[q.routine].words[k] == 'n')
+        q.words[k].number = near(q.words[k].number);
+    emit_request(&q, false);
+}
+
 static void emit_some(void)
 {
     static const enum routine often[] = {
@@ -589,6 +609,10 @@ static void emit_some(void)
     };
     if (one_in(20)) {
         emit(some_spoilt_line());
+        return;
+    }
+    if (one_in(30)) {
+        emit_beside_an_edge();
         return;
     }
     request q = some_request(often[below(sizeof often / sizeof *often)]);
@@ -605,6 +629,8 @@ void make_requests(uint64_t seed, uint64_t count)
 {
     dice.state = seed;
     left = count;
+    for (size_t k = 0; k < edge_count; k++)
+        emit_text(edges[k]);
     while (left > 0)
         emit_some();
 }
