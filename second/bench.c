@@ -133,8 +133,8 @@ static void bench_list(series64 *from, uint64_t count)
 static const struct { const char *name; void (*once)(series64 *); uint64_t count; } benches[] = {
     { "root", bench_root, 10000000 },
     { "advance", bench_advance, 100000 },
-    { "lambert", bench_lambert, 100000 },
-    { "theta", bench_theta, 1000000 },
+    { "lambert", bench_lambert, 50000 },
+    { "theta", bench_theta, 500000 },
 };
 
 bool bench(const char *name, uint64_t count, uint64_t *sum)

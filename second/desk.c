@@ -60,7 +60,11 @@ static bool is_digit(char c)
 
 static int hex_digit(char c)
 {
-    return is_digit(c) ? c - '0' : 'a' <= c && c <= 'f' ? c - 'a' + 10 : 'A' <= c && c <= 'F' ? c - 'A' + 10 : -1;
+    if (is_digit(c))
+        return c - '0';
+    if ('a' <= c && c <= 'f')
+        return c - 'a' + 10;
+    return 'A' <= c && c <= 'F' ? c - 'A' + 10 : -1;
 }
 
 static bool read_bits(span w, double *out)

@@ -3,41 +3,12 @@
 
 #include "conic.h"
 #include "desk.h"
+#include "dice.h"
 #include "edges.h"
-#include "random.h"
+#include "lines.h"
 #include "real.h"
 
-#include <inttypes.h>
 #include <stdio.h>
-
-static series64 dice;
-
-static uint64_t below(uint64_t n)
-{
-    return next(&dice) % n;
-}
-
-static bool one_in(uint64_t n)
-{
-    return below(n) == 0;
-}
-
-static double uniform(double a, double b)
-{
-    return between(&dice, a, b);
-}
-
-/* 2^lo ≤ x < 2^hi, each power of two as often. */
-static double scaled(int lo, int hi)
-{
-    uint64_t exponent = (uint64_t)(1023 + lo) + below((uint64_t)(hi - lo));
-    return of_bits(exponent << 52 | next(&dice) >> 12);
-}
-
-static double either_sign(double x)
-{
-    return one_in(2) ? x : -x;
-}
 
 /* f64 in a row, from -NaN by -0 and +0 to NaN, so that neighbours differ by 1. */
 
@@ -54,10 +25,15 @@ static double of_key(int64_t key)
     return of_bits(key < 0 ? sign_bit | (uint64_t)(-1 - key) : (uint64_t)key);
 }
 
-/* The limit, or its neighbour to either side. */
+/* 0, or 1 to either side. */
+static int64_t beside(void)
+{
+    return (int64_t)below(3) - 1;
+}
+
 static double near(double limit)
 {
-    return of_key(key_of(limit) + (int64_t)below(3) - 1);
+    return of_key(key_of(limit) + beside());
 }
 
 static double oddity(void)
@@ -67,7 +43,7 @@ static double oddity(void)
         0x3FF0000000000000, 0x7FEFFFFFFFFFFFFF, 0x7FF0000000000000,                     /* 1, largest, infinity */
         0x7FF0000000000001, 0x7FF8000000000000, 0x7FFFFFFFFFFFFFFF,                     /* NaN */
     };
-    uint64_t bits = one_in(6) ? next(&dice) : odd[below(sizeof odd / sizeof *odd)];
+    uint64_t bits = one_in(6) ? roll() : odd[below(sizeof odd / sizeof *odd)];
     return of_bits(one_in(2) ? bits : bits ^ sign_bit);
 }
 
@@ -78,7 +54,10 @@ typedef struct { double mu, energy; state at; } orbit; /* energy: |r|·(v·v)/mu
 static vector direction(void)
 {
     for (;;) {
-        vector a = { uniform(-1, 1), uniform(-1, 1), uniform(-1, 1) };
+        vector a;
+        a.x = uniform(-1, 1);
+        a.y = uniform(-1, 1);
+        a.z = uniform(-1, 1);
         if (dot(a, a) > 0.01 && dot(a, a) <= 1)
             return over(a, length(a));
     }
@@ -161,10 +140,10 @@ static orbit some_orbit(void)
     double r = (least < 0x1p18 ? 0x1p18 : least) * uniform(1, one_in(4) ? 64 : 8);
     if (!(r < 0x1p29))
         r = uniform(0x1p18, 0x1p29);
-    double speed = sqrt(o.energy * o.mu / r);
-    vector up = direction();
+    double speed = sqrt(o.energy * o.mu / r), climb = either_sign(cosine_of(h));
+    vector up = direction(), along = across(up);
     o.at.r = times(r, up);
-    o.at.v = times(speed, plus(times(either_sign(cosine_of(h)), up), times(sine_of(h), across(up))));
+    o.at.v = times(speed, plus(times(climb, up), times(sine_of(h), along)));
     return o;
 }
 
@@ -225,13 +204,13 @@ static double some_square(void)
     case 2:
         return either_sign(of_bits(below(UINT64_C(1) << 53)));
     default:
-        return of_bits(next(&dice) & ~(one_in(8) ? 0 : sign_bit));
+        return of_bits(one_in(8) ? roll() : roll() & ~sign_bit);
     }
 }
 
 static judgement some_end(double asked, bool upper)
 {
-    if (one_in(6))
+    if (!isfinite(asked) || one_in(6))
         return (judgement){ upper ? OVER : UNDER, 0 };
     double away = one_in(16) ? 0 : one_in(8) ? 0x1p28 - fabs(asked) : scaled(-30, 27);
     double t = upper ? asked + away : asked - away;
@@ -245,8 +224,10 @@ static judgement some_end(double asked, bool upper)
 static int64_t some_whole(void)
 {
     static const int64_t limits[] = { 0, INT64_C(1) << 37, -(INT64_C(1) << 37), INT64_MAX - 1, INT64_MIN + 1 };
-    if (one_in(8))
-        return limits[below(5)] + (int64_t)below(3) - 1;
+    if (one_in(8)) {
+        int64_t limit = limits[below(5)];
+        return limit + beside();
+    }
     return (int64_t)either_sign(scaled(0, 37));
 }
 
@@ -276,7 +257,8 @@ static void some_transfer(request *q)
     orbit o = some_orbit();
     double t = some_time(&o);
     solution later = kepler(o.mu, o.at, t);
-    vector to = times(length(o.at.r) * scaled(-2, 2), direction());
+    double r2 = length(o.at.r) * scaled(-2, 2);
+    vector to = times(r2, direction());
     if (!later.refused && !one_in(16))
         to = later.r;
     bool short_way = dot(cross(o.at.r, to), cross(o.at.r, o.at.v)) >= 0;
@@ -305,9 +287,12 @@ static double last_angle(const orbit *o, double a, double b)
 static void some_angle(word *w, const orbit *o)
 {
     double h = either_sign(one_in(8) ? scaled(-10, 10) : scaled(-4, 5));
+    double less = scaled(-4, 0), more = scaled(0, 5);
     if (one_in(o->energy > 2 ? 2 : 8))
-        h = last_angle(o, scaled(-4, 0), scaled(0, 5)) * (1 + either_sign(scaled(-50, -8)));
-    double longer = one_in(8) ? 1 + either_sign(0x1p-41) * uniform(0.99, 1.01) : 1;
+        h = last_angle(o, less, more);
+    if (one_in(4))
+        h = h * (1 + either_sign(scaled(-50, -8)));
+    double longer = one_in(8) ? 1 + either_sign(0x1p-41 * uniform(0.99, 1.01)) : 1;
     w[0].number = sine_of(h) * longer;
     w[1].number = cosine_of(h) * longer;
 }
@@ -414,141 +399,6 @@ static void find_edge(request *q, request *other, size_t k)
     other->words[k].number = of_key(unlike);
 }
 
-/* Lines. */
-
-typedef struct { char words[WORDS_MAX + 3][72]; int count; } spelling;
-typedef struct { char bytes[2000]; size_t length; } line;
-
-static void spell_number(char *out, double x, bool decimal)
-{
-    if (!decimal || !(fabs(x) < 1e14)) {
-        sprintf(out, one_in(8) ? "x%016" PRIx64 : "x%016" PRIX64, bits_of(x));
-        return;
-    }
-    int whole = snprintf(NULL, 0, "%" PRIu64, (uint64_t)fabs(x));
-    sprintf(out, one_in(8) ? "%+.*f" : "%.*f", (int)below((uint64_t)(16 - whole)), x);
-}
-
-static void spell_judgement(char *out, judgement j, bool decimal)
-{
-    static const char *const heads[] = { [UNDER] = "under", [LOW] = "low:", [HIGH] = "high:", [OVER] = "over" };
-    out += sprintf(out, "%s", heads[j.as]);
-    if (carries_time(j))
-        spell_number(out, j.time, decimal);
-}
-
-static void spell_word(char *out, char letter, word w, bool decimal)
-{
-    switch (letter) {
-    case 'n':
-        spell_number(out, w.number, decimal);
-        break;
-    case 'i':
-        sprintf(out, one_in(16) ? "%020" PRId64 : "%" PRId64, w.whole);
-        break;
-    case 'k':
-        sprintf(out, "%" PRIu64, w.count);
-        break;
-    case 'j':
-        spell_judgement(out, w.judgement, decimal);
-        break;
-    default:
-        strcpy(out, w.long_way ? "long" : "short");
-    }
-}
-
-static spelling spelled(const request *q, bool decimal)
-{
-    spelling s = { .count = 1 };
-    strcpy(s.words[0], forms[q->routine].name);
-    for (const char *letter = forms[q->routine].words; *letter; letter++, s.count++)
-        spell_word(s.words[s.count], *letter, q->words[s.count - 1], decimal);
-    return s;
-}
-
-static line joined(const spelling *s)
-{
-    static const char *const blanks[] = { " ", "  ", "\t", " \t ", "\r", "     " };
-    bool wide = one_in(16);
-    line l = { .length = 0 };
-    if (wide && one_in(2))
-        l.bytes[l.length++] = ' ';
-    for (int k = 0; k < s->count; k++) {
-        const char *blank = k == 0 ? "" : wide ? blanks[below(6)] : " ";
-        l.length += (size_t)sprintf(l.bytes + l.length, "%s%s", blank, s->words[k]);
-    }
-    if (wide && one_in(2))
-        l.bytes[l.length++] = '\r';
-    return l;
-}
-
-static void pad(line *l, size_t length)
-{
-    char with = one_in(2) ? ' ' : '7';
-    while (l->length < length)
-        l->bytes[l->length++] = with;
-}
-
-static const char *bad_word(void)
-{
-    static const char *const bad[] = {
-        "x", "x123", "x3FF000000000000", "x3FF00000000000000", "x3FF000000000000G", "X3FF0000000000000",
-        "0x3FF0000000000000", "-x3FF0000000000000", "-", "+", ".", "1.", ".5", "-.5", "1..2", "1.2.3", "+-1",
-        "--1", "1e5", "1,5", "1234567890123456", "1.234567890123456", "0000000000000001", "000000000000001",
-        "nan", "inf", "low:", "low", "low:-", "high:x", "high:1.", "LOW:1", "under:1", "over:", "under", "over",
-        "high:-0", "low:+0.5", "18446744073709551615", "18446744073709551616", "9223372036854775807",
-        "9223372036854775808", "-9223372036854775808", "-9223372036854775809", "+5", "-0", "5-", "\xCE\xBE",
-        "short", "long", "Short", "shorter", "#",
-    };
-    return bad[below(sizeof bad / sizeof *bad)];
-}
-
-static void spoil_words(spelling *s)
-{
-    int k = (int)below((uint64_t)s->count);
-    switch (below(5)) {
-    case 0:
-        s->count = 1 + k; /* a missing word, or none missing */
-        break;
-    case 1:
-        strcpy(s->words[s->count++], bad_word());
-        break;
-    case 2:
-        strcpy(s->words[0], one_in(2) ? bad_word() : "Root");
-        break;
-    default:
-        strcpy(s->words[k], bad_word());
-    }
-}
-
-static line some_spoilt_line(void)
-{
-    request q = some_request((enum routine)below(ROUTINES));
-    spelling s = spelled(&q, one_in(4));
-    if (!one_in(4))
-        spoil_words(&s);
-    line l = joined(&s);
-    switch (below(16)) {
-    case 0:
-        pad(&l, LINE_MAX - 1 + below(4));
-        break;
-    case 1:
-        l.bytes[below(l.length)] = (char)below(256);
-        break;
-    case 2:
-        l.bytes[0] = '#';
-        break;
-    case 3:
-        l.length = below(2);
-        l.bytes[0] = ' ';
-        break;
-    }
-    for (size_t k = 0; k < l.length; k++)
-        if (l.bytes[k] == '\n')
-            l.bytes[k] = '\v';
-    return l;
-}
-
 /* The count is of lines that get an answer. */
 
 static uint64_t left;
@@ -565,8 +415,7 @@ static void emit(line l)
 
 static void emit_request(const request *q, bool decimal)
 {
-    spelling s = spelled(q, decimal);
-    emit(joined(&s));
+    emit(spelled_line(q, decimal));
 }
 
 /* A number of q changed by much: drawn anew, many times larger or smaller, or at a limit. */
@@ -608,7 +457,8 @@ static void emit_some(void)
         THETA, THETA, APSIDES,
     };
     if (one_in(20)) {
-        emit(some_spoilt_line());
+        request q = some_request((enum routine)below(ROUTINES));
+        emit(spoilt_line(&q, one_in(4)));
         return;
     }
     if (one_in(30)) {
@@ -627,7 +477,7 @@ static void emit_some(void)
 
 void make_requests(uint64_t seed, uint64_t count)
 {
-    dice.state = seed;
+    throw_from(seed);
     left = count;
     for (size_t k = 0; k < edge_count; k++)
         emit_text(edges[k]);

@@ -1,18 +1,10 @@
 /* Small sessions, whole, cut, damaged and over-long, for the listing. */
 #include "programs.h"
 
-#include "random.h"
-#include "real.h"
+#include "dice.h"
 #include "session.h"
 
 #include <stdio.h>
-
-static series64 dice;
-
-static uint64_t below(uint64_t n)
-{
-    return next(&dice) % n;
-}
 
 static int64_t some_time(void)
 {
@@ -21,7 +13,7 @@ static int64_t some_time(void)
     case 0:
         return times[below(sizeof times / sizeof *times)];
     case 1:
-        return (int64_t)next(&dice);
+        return (int64_t)roll();
     default:
         return (int64_t)below(17280000000) - 8640000000;
     }
@@ -29,10 +21,11 @@ static int64_t some_time(void)
 
 static record some_record(int kind)
 {
-    record r = { .kind = kind, .vehicle = (int)below(2), .time = some_time() };
+    record r = { .kind = kind, .vehicle = (int)below(2) };
+    r.time = some_time();
     r.byte = kind == STATE ? (int)below(2) : 0;
     for (int k = 0; k < numbers_of(kind); k++)
-        r.numbers[k] = between(&dice, -0x1p23, 0x1p23);
+        r.numbers[k] = uniform(-0x1p23, 0x1p23);
     return r;
 }
 
@@ -74,7 +67,7 @@ static void damage(session *s, uint64_t records)
         return;
     }
     uint8_t *byte = s->bytes + place + (field < 6 ? field : below(14));
-    *byte = (uint8_t)(below(2) ? next(&dice) : *byte + below(5) - 2);
+    *byte = (uint8_t)(below(2) ? roll() : *byte + below(5) - 2);
 }
 
 /* 65,536 bytes of whole records and a few bytes more or less. */
@@ -121,7 +114,7 @@ static void make_session(session *s, uint64_t turn)
 int make_sessions(uint64_t seed, uint64_t count, const char *folder)
 {
     static session s;
-    dice.state = seed;
+    throw_from(seed);
     for (uint64_t turn = 0; turn < count; turn++) {
         char name[4096];
         make_session(&s, turn);
