@@ -1,18 +1,16 @@
 -- What the routine's answer is at each kind of input, and that a root is a value of binary64. Assumes nothing.
 use mathlib.Core.Path.{_≡_, refl, sym, ap, _∙_, subst}
 use Prim.Native.Nat.{ℕ, zero, suc, _+_, _-_, _*_, _/_, _%_, _^_, _≤_, _<_}
-use native.Mathlib.Nat.{zero-mul, mul-pos, lt-irrefl, lt-of-le-of-lt, lt-of-lt-of-le, pow-suc}
+use native.Mathlib.Nat.{zero-mul, mul-pos, lt-irrefl, lt-of-le-of-lt, pow-suc}
 use native.Mathlib.Omega.{arith}
 use mathlib.Core.Bool.{Bool, true, false, not, cond, true≢false, false≢true}
-use lib.IntN.{ℤ}
 use lib.Dec.{T, leb, ltb, eqb, ltb→lt, nltb→le, le→leb, lit<}
 use lib.Pow.{pow-pos}
-use lib.Ieee.{Float, nan, inf, fin, binary64, prec, emax, low, size, odd, units, ofFields, ofBits, toBits, up, down, fits, ne, isNan, nanBits}
+use lib.Ieee.{Float, nan, inf, fin, binary64, size, odd, units, ofFields, ofBits, toBits, up, fits, ne, isNan, nanBits}
 use lib.Ieee.Bits.{is-true, ofBits-toBits, ofBits-fits, nanBits-is}
 use lib.Ieee.Compare.{differs-from-itself}
-use lib.Ieee.Fits.{down-pos, odd-fits, cond-fits}
+use lib.Ieee.Fits.{down-pos, odd-fits}
 use lib.Ieee.Exact.{HasValue, odd-sign}
-use Rattle.real.specs.declared.Answer.{Answer}
 use Rattle.real.specs.declared.Answer.the-variants.{Value, Refused}
 use Rattle.root.specs.Root.{wholeRoot, inUnits, rootUnits, rootOf, rootAnswer}
 use Rattle.root.proofs.Patterns.{fields-below, small-value, normal-value}

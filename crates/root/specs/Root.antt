@@ -1,8 +1,8 @@
 -- The square root of an f64, over whole numbers.
 -- A finite f64 is a whole number of units of 2 ^ -1074, the smallest value. Where x is n units, the root of x is the root of n * 2 ^ 1074, in units.
 use mathlib.Core.Path.{_≡_}
-use Prim.Native.Nat.{ℕ, zero, suc, _+_, _-_, _*_, _/_, _%_, _^_, _≤_, _<_}
-use mathlib.Core.Bool.{Bool, true, false, cond}
+use Prim.Native.Nat.{ℕ, zero, suc, _+_, _-_, _*_, _/_, _%_, _^_, _<_}
+use mathlib.Core.Bool.{true, false, cond}
 use lib.IntN.{ℤ}
 use lib.Dec.{T, leb}
 use Rattle.real.specs.declared.Answer.{Answer}

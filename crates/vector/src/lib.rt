@@ -1,4 +1,20 @@
-// Vectors and states.
+// Vectors and states, and the rows of the refusal table that look at an input alone.
+mod rows;
+
+pub use rows::Fault;
+pub use rows::Test;
+pub use rows::finite_number;
+pub use rows::finite_vector;
+pub use rows::first;
+pub use rows::holds;
+pub use rows::mu_row;
+pub use rows::position_components;
+pub use rows::position_row;
+pub use rows::time_row;
+pub use rows::transfer_time_row;
+pub use rows::velocity_components;
+ghost use mathlib.Core.Path.{_≡_};
+ghost use Rattle.vector.specs.Vectors.{positionOf, velocityOf, stateOf, dotOf, crossOf, lengthOf, scaledOf, sumOf, dividedOf, negatedOf};
 
 // Three numbers.
 pub struct Vector {
@@ -15,4 +31,106 @@ pub struct State {
     pub vx: f64,
     pub vy: f64,
     pub vz: f64,
+}
+
+pub fn position(s: State) -> Vector
+    ensures { λ r. ⌜ r ≡ positionOf s ⌝ }
+{
+    Vector {
+        x: s.rx,
+        y: s.ry,
+        z: s.rz,
+    }
+}
+
+pub fn velocity(s: State) -> Vector
+    ensures { λ r. ⌜ r ≡ velocityOf s ⌝ }
+{
+    Vector {
+        x: s.vx,
+        y: s.vy,
+        z: s.vz,
+    }
+}
+
+pub fn state_of(r: Vector, v: Vector) -> State
+    ensures { λ s. ⌜ s ≡ stateOf r v ⌝ }
+{
+    State {
+        rx: r.x,
+        ry: r.y,
+        rz: r.z,
+        vx: v.x,
+        vy: v.y,
+        vz: v.z,
+    }
+}
+
+// a·b
+pub fn dot(a: Vector, b: Vector) -> f64
+    ensures { λ r. ⌜ r ≡ dotOf a b ⌝ }
+{
+    a.x * b.x + a.y * b.y + a.z * b.z
+}
+
+// a×b
+pub fn cross(a: Vector, b: Vector) -> Vector
+    ensures { λ r. ⌜ r ≡ crossOf a b ⌝ }
+{
+    Vector {
+        x: a.y * b.z - a.z * b.y,
+        y: a.z * b.x - a.x * b.z,
+        z: a.x * b.y - a.y * b.x,
+    }
+}
+
+// |a|
+pub fn length(a: Vector) -> f64
+    ensures { λ r. ⌜ r ≡ lengthOf a ⌝ }
+{
+    root::square_root(dot(a, a))
+}
+
+// k·a
+pub fn scaled(k: f64, a: Vector) -> Vector
+    ensures { λ r. ⌜ r ≡ scaledOf k a ⌝ }
+{
+    Vector {
+        x: k * a.x,
+        y: k * a.y,
+        z: k * a.z,
+    }
+}
+
+// a + b
+pub fn sum(a: Vector, b: Vector) -> Vector
+    ensures { λ r. ⌜ r ≡ sumOf a b ⌝ }
+{
+    Vector {
+        x: a.x + b.x,
+        y: a.y + b.y,
+        z: a.z + b.z,
+    }
+}
+
+// a/k
+pub fn divided(a: Vector, k: f64) -> Vector
+    ensures { λ r. ⌜ r ≡ dividedOf a k ⌝ }
+{
+    Vector {
+        x: a.x / k,
+        y: a.y / k,
+        z: a.z / k,
+    }
+}
+
+// −a
+pub fn negated(a: Vector) -> Vector
+    ensures { λ r. ⌜ r ≡ negatedOf a ⌝ }
+{
+    Vector {
+        x: -a.x,
+        y: -a.y,
+        z: -a.z,
+    }
 }

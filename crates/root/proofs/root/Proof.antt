@@ -1,22 +1,15 @@
 -- `root::root` meets its contract. x is the number that its bits stand for, so each answer is that of the bits (`Answers.antt`). Assumes nothing.
 use borrow.Author.Needs.{needs}
-use mathlib.Core.Path.{_≡_, refl, sym, ap, _∙_, subst}
-use mathlib.Core.Bool.{true}
-use Prim.Native.Nat.{ℕ, _<_, _≤_}
-use native.Mathlib.Omega.{arith}
+use mathlib.Core.Path.{_≡_, sym, ap, _∙_, subst}
 use lib.Dec.{T}
 use lib.Ieee.{Float, binary64, fits, ofBits, toBits}
 use lib.Ieee.Bits.{ofBits-toBits, toBits-lt}
-use Rattle.real.specs.declared.Answer.{Answer}
 use Rattle.real.specs.declared.Answer.the-variants.{Value, Refused}
-use Rattle.root.specs.Root.{rootOf, rootAnswer}
+use Rattle.root.specs.Root.{rootAnswer}
 use Rattle.root.proofs.Answers.{answer-nan, not-nan, answer-zero, answer-minus-zero, answer-refused, answer-value, bits-no-nan}
 use Rattle.root.proofs.Near.{rooted}
 use Rattle.root.proofs.root.Statement.{statement}
 use Rattle.root.proofs.root.Tie as tie
-use Rattle.root.proofs.root.Reads as reads
-use Rattle.root.proofs.root.Lts as lts
-use Rattle.root.proofs.root_bits.Reads as root-bits-reads
 
 held : (c : tie.Start) → T (fits binary64 (c .args .x))
 held c = subst T (sym (c .good .0 .1)) tt

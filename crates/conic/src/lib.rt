@@ -1,0 +1,87 @@
+// What the conic routines share: the grid, two derived numbers with their rows, and the time of a trial.
+use real::Answer;
+use vector::Test;
+use vector::Vector;
+ghost use mathlib.Core.Path.{_≡_};
+ghost use Rattle.conic.specs.Conic.{gridOf, c2Of, pOf, c2Row, pRow, timeOf, pointAt};
+
+// What the trials of one solve share.
+pub struct Orbit {
+    pub r1: f64,
+    pub rootmu: f64,
+    pub c1: f64,
+    pub c2: f64,
+}
+
+// The numbers of one trial, z = x·x and the time t among them.
+pub struct Point {
+    pub x: f64,
+    pub z: f64,
+    pub xi: f64,
+    pub c: f64,
+    pub s: f64,
+    pub t: f64,
+}
+
+// A trial's numbers, or that ξ is outside its range.
+pub enum Trial {
+    At(Point),
+    Out,
+}
+
+// n·2^-20: the grid of Kepler's x and of Lambert's cot.
+pub fn grid(n: i64) -> f64
+    ensures { λ r. ⌜ r ≡ gridOf n ⌝ }
+{
+    std::num::nearest_i64_to_f64(n) * 9.5367431640625e-7
+}
+
+// c2 of a state, from r1 = |r|.
+pub fn c2(r1: f64, v: Vector, mu: f64) -> f64
+    ensures { λ r. ⌜ r ≡ c2Of r1 v mu ⌝ }
+{
+    r1 * vector::dot(v, v) / mu - 1.0
+}
+
+// p of a state, from h = r×v.
+pub fn p(h: Vector, mu: f64) -> f64
+    ensures { λ r. ⌜ r ≡ pOf h mu ⌝ }
+{
+    vector::dot(h, h) / mu
+}
+
+// Row 6 for c2: |c2| < 2^6.
+pub fn c2_row(input: u32, c2: f64) -> Test
+    ensures { λ r. ⌜ r ≡ c2Row input c2 ⌝ }
+{
+    vector::holds(real::size(c2) < 64.0, 6, input, 0, c2)
+}
+
+// Row 6 for p_N = p/r: p_N ≤ 2^4.
+pub fn p_row(input: u32, pn: f64) -> Test
+    ensures { λ r. ⌜ r ≡ pRow input pn ⌝ }
+{
+    vector::holds(pn <= 16.0, 6, input, 0, pn)
+}
+
+// The time at x, with c and s at its ξ and z = x·x.
+fn time(o: Orbit, x: f64, z: f64, c: f64, s: f64) -> f64
+    ensures { λ r. ⌜ r ≡ timeOf o x z c s ⌝ }
+{
+    (o.c1 * (z * c) + x * (o.c2 * (z * s) + o.r1)) / o.rootmu
+}
+
+// The numbers of the trial at x, whose ξ is given.
+pub fn point_at(o: Orbit, x: f64, xi: f64) -> Trial
+    ensures { λ r. ⌜ r ≡ pointAt o x xi ⌝ }
+{
+    let z = x * x;
+    let Answer::Value(c) = series::c(xi) else {
+        return Trial::Out;
+    };
+    let Answer::Value(s) = series::s(xi) else {
+        return Trial::Out;
+    };
+    let t = time(o, x, z, c, s);
+    Trial::At(Point { x, z, xi, c, s, t })
+}

@@ -1,0 +1,106 @@
+-- Kepler: the state forward or back by a time, in the operations of f64 and in their order. Assumes nothing: these are definitions.
+use mathlib.Core.Bool.{cond}
+use lib.IntN.{ℤ}
+use lib.Ieee.{Float}
+use Rattle.real.specs.F64.{_⊖_, _⊗_, _⊘_, _<ᶠ_, two^, f0, f1, sizeOf}
+use Rattle.root.specs.Root.{rootOf}
+use Rattle.vector.specs.declared.Vector.{Vector}
+use Rattle.vector.specs.declared.State.{State}
+use Rattle.vector.specs.declared.rows.Test.{Test}
+use Rattle.vector.specs.declared.rows.Test.the-variants.{Passed, Failed}
+use Rattle.vector.specs.Vectors.{positionOf, velocityOf, stateOf, dotOf, lengthOf, scaledOf, sumOf, negatedOf}
+use Rattle.vector.specs.Rows.{holdsOf, _▷_, finiteNumber, finiteVector, muRow, positionRow, positionComponents, velocityComponents, timeRow}
+use Rattle.conic.specs.declared.Orbit.{Orbit}
+use Rattle.conic.specs.declared.Point.{Point}
+use Rattle.conic.specs.declared.Trial.{Trial}
+use Rattle.conic.specs.declared.Trial.the-variants as T
+use Rattle.conic.specs.Conic.{gridOf, c2Of, c2Row, pointAt}
+use Rattle.iterator.specs.declared.Judgement.{Judgement}
+use Rattle.iterator.specs.declared.Judgement.the-variants.{Over}
+use Rattle.iterator.specs.Judged.{judgedOf}
+use Rattle.kepler.specs.declared.Motion.{Motion}
+use Rattle.kepler.specs.declared.Arrival.{Arrival}
+use Rattle.kepler.specs.declared.Arrival.the-variants.{At, Out}
+
+-- A negative time is solved with the velocity negated, and the velocity found is negated again.
+unfoldable pub turnedOf : Float → State → State
+turnedOf t s = cond (t <ᶠ f0) (stateOf (positionOf s) (negatedOf (velocityOf s))) s
+
+-- c1 = (r·v)/√mu; c2 = |r|·(v·v)/mu − 1; α = (1 − c2)/|r|
+abbrev pub orbitOf : Float → State → Orbit
+orbitOf mu s = record {
+  r1 = lengthOf (positionOf s);
+  rootmu = rootOf mu;
+  c1 = dotOf (positionOf s) (velocityOf s) ⊘ rootOf mu;
+  c2 = c2Of (lengthOf (positionOf s)) (velocityOf s) mu;
+}
+
+abbrev pub motionOf : Float → State → Motion
+motionOf mu s = record {
+  orbit = orbitOf mu s;
+  alpha = (f1 ⊖ orbitOf mu s .c2) ⊘ orbitOf mu s .r1;
+}
+
+-- 1, of the inputs in the order written: mu is input 0, the position 1, the velocity 2, the time 3
+abbrev pub finiteRow : Float → Vector → Vector → Float → Test
+finiteRow mu r v t = finiteNumber 0 mu ▷ finiteVector 1 r ▷ finiteVector 2 v ▷ finiteNumber 3 t
+
+-- 6: |c1| < 2^17, |c2| < 2^6
+abbrev pub derivedRow : Orbit → Test
+derivedRow o = holdsOf (sizeOf (o .c1) <ᶠ two^ 17) 6 0 0 (o .c1) ▷ c2Row 1 (o .c2)
+
+-- the tests ahead of the first trial, in the order of the rows
+abbrev pub keplerTests : Float → State → Float → Motion → Test
+keplerTests mu s t m =
+    finiteRow mu (positionOf s) (velocityOf s) t
+    ▷ muRow mu
+    ▷ positionRow 1 (positionOf s) (m .orbit .r1)
+    ▷ velocityComponents 4 2 (velocityOf s)
+    ▷ timeRow 3 t
+    ▷ derivedRow (m .orbit)
+
+-- x = n·2^-20 and ξ = α·(x·x)
+abbrev pub trialAt : Motion → ℤ → Trial
+trialAt m n = pointAt (m .orbit) (gridOf n) (m .alpha ⊗ (gridOf n ⊗ gridOf n))
+
+-- over if ξ is outside its range or t is not within −2^28..2^28
+unfoldable pub judgedTrial : Float → Trial → Judgement
+judgedTrial asked (T.At p) = judgedOf asked (p .t)
+judgedTrial asked T.Out = Over
+
+abbrev pub keplerJudge : Motion → Float → ℤ → Judgement
+keplerJudge m asked n = judgedTrial asked (trialAt m n)
+
+-- r2 = (1 − (z·c)/r1)·r + (t − x·(z·s)/√mu)·v
+abbrev pub r2Of : Orbit → State → Point → Vector
+r2Of o s p =
+    sumOf (scaledOf (f1 ⊖ p .z ⊗ p .c ⊘ o .r1) (positionOf s)) (scaledOf (p .t ⊖ p .x ⊗ (p .z ⊗ p .s) ⊘ o .rootmu) (velocityOf s))
+
+-- v2 = ((√mu·x·(ξ·s − 1))/(r1·|r2|))·r + (1 − (z·c)/|r2|)·v
+abbrev pub v2Of : Orbit → State → Point → Float → Vector
+v2Of o s p r2 =
+    sumOf
+    (scaledOf (o .rootmu ⊗ p .x ⊗ (p .xi ⊗ p .s ⊖ f1) ⊘ (o .r1 ⊗ r2)) (positionOf s))
+    (scaledOf (f1 ⊖ p .z ⊗ p .c ⊘ r2) (velocityOf s))
+
+-- 9: each position component under 2^29, each velocity component at most 2^7 in size, and |r2| over 0
+abbrev pub resultRow : Vector → Vector → Float → Test
+resultRow r v length = positionComponents 9 0 r ▷ velocityComponents 9 1 v ▷ holdsOf (f0 <ᶠ length) 9 0 3 length
+
+-- the state at a trial, if its row 9 passes
+unfoldable pub passedBy : Test → State → Arrival
+passedBy Passed s = At s
+passedBy (Failed f) s = Out f
+
+unfoldable pub arrivedOf : Orbit → State → Point → Arrival
+arrivedOf o s p =
+    let r = r2Of o s p in
+    let v = v2Of o s p (lengthOf r) in
+    passedBy (resultRow r v (lengthOf r)) (stateOf r v)
+
+unfoldable pub arrivedBy : Orbit → State → Float → Trial → Arrival
+arrivedBy o s x (T.At p) = arrivedOf o s p
+arrivedBy o s x T.Out = Out (record { number = 9; input = 2; part = 0; amount = x })
+
+abbrev pub arrivalOf : Motion → State → ℤ → Arrival
+arrivalOf m s n = arrivedBy (m .orbit) s (gridOf n) (trialAt m n)
