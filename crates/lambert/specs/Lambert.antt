@@ -1,5 +1,4 @@
 -- Lambert: two positions and a time give a velocity, in the operations of f64 and in their order. Assumes nothing: these are definitions.
-use Prim.Native.Nat.{ℕ}
 use mathlib.Core.Bool.{cond, not}
 use lib.IntN.{ℤ}
 use lib.Ieee.{Float, neg}

@@ -14,7 +14,6 @@ use Rattle.reach.specs.declared.Reached.{Reached}
 use Rattle.reach.specs.declared.Reached.the-variants as R
 use Rattle.reach.specs.Reach.{cothalfOf, cothalfRow, reachOf}
 use Rattle.theta.specs.declared.Sweep.{Sweep}
-use Rattle.theta.specs.declared.Timed.{Timed}
 use Rattle.theta.specs.declared.TransferTime.{TransferTime}
 use Rattle.theta.specs.declared.TransferTime.the-variants.{Time, TooLong, TooShort, Refused}
 
