@@ -1,0 +1,68 @@
+use mir.Syntax.{w64}
+use lib.Dec.{lit<}
+use Rattle.session.proofs.Numbers.{ready}
+use mir.Facts.{toZ-ofZ}
+use borrow.Author.Needs.{needs}
+use Rattle.session.proofs.record.state_of.Statement.{statement}
+use Rattle.session.proofs.record.state_of.Tie as tie
+
+sub-le-of : tie.Need-sub-le-of
+sub-le-of c = search needs
+
+part-le-of-start : tie.Need-part-le-of-start
+part-le-of-start c = search needs
+
+part-le-of-end : tie.Need-part-le-of-end
+part-le-of-end c = search needs
+
+le-of-requires : tie.Need-le-of-requires
+le-of-requires c κs = search needs
+
+signed-requires : tie.Need-signed-requires
+signed-requires c κs = search needs
+
+shared-slice-read-vehicle : tie.Need-shared-slice-read-vehicle
+shared-slice-read-vehicle c = search needs
+
+shared-slice-read-body : tie.Need-shared-slice-read-body
+shared-slice-read-body c = search needs
+
+number-requires : tie.Need-number-requires
+number-requires c κs = ready 6 0 _ (c .before .before .before .before .before .before .pre) (lit< tt)
+
+number-requires-2 : tie.Need-number-requires-2
+number-requires-2 c κs = ready 6 1 _ (c .before .before .before .before .before .before .before .pre) (lit< tt)
+
+number-requires-3 : tie.Need-number-requires-3
+number-requires-3 c κs = ready 6 2 _ (c .before .before .before .before .before .before .before .before .pre) (lit< tt)
+
+number-requires-4 : tie.Need-number-requires-4
+number-requires-4 c κs = ready 6 3 _ (c .before .before .before .before .before .before .before .before .before .pre) (lit< tt)
+
+number-requires-5 : tie.Need-number-requires-5
+number-requires-5 c κs = ready 6 4 _ (c .before .before .before .before .before .before .before .before .before .before .pre) (lit< tt)
+
+number-requires-6 : tie.Need-number-requires-6
+number-requires-6 c κs = ready 6 5 _ (c .before .before .before .before .before .before .before .before .before .before .before .pre) (lit< tt)
+
+returns : tie.Need-returns
+returns c = cc (toZ-ofZ {w = w64} {z = c .before .before .before .before .before .before .before .before .signed .result} (record { sfits = c .before .before .before .before .before .before .before .before .signed .ok }))
+
+pub state-of-spec : {M : Type 1} → statement M
+state-of-spec =
+    tie.close
+    (tie.spec
+    sub-le-of
+    part-le-of-start
+    part-le-of-end
+    le-of-requires
+    signed-requires
+    shared-slice-read-vehicle
+    shared-slice-read-body
+    number-requires
+    number-requires-2
+    number-requires-3
+    number-requires-4
+    number-requires-5
+    number-requires-6
+    returns)
