@@ -6,7 +6,7 @@ use mathlib.Core.List.{List}
 use mathlib.Core.Bool.{Bool, true, false, cond, not, _&&_}
 use lib.ListN.{length, drop, length-drop}
 use lib.Dec.{ltb, leb, eqb}
-use borrow.Author.Tests.{ltb-false}
+use borrow.Author.Tests.{ltb-false, leb-true, eqb-true}
 use Rattle.session.specs.declared.record.Kind.{Kind}
 use Rattle.session.specs.declared.record.Found.{Found}
 use Rattle.session.specs.declared.record.Found.the-variants.{Known, Unknown}
@@ -30,34 +30,54 @@ never : {X : Type 0} (n : ℕ) (k : Kind) → Bad n ≡ Good k → X
 never n k p = let z : _≡_ {A = ℕ} 0 1 = cc in let w : ⊥ = omega arith in absurd w
 
 -- only a good head passes
-tests : (e l a : Bool) (j k : Kind) → cond (not e) (Bad 12) (cond l (Bad 11) (cond a (Good j) (Bad 14))) ≡ Good k → (l ≡ false) × (a ≡ true) × (j ≡ k)
+tests : (e l a : Bool) (j k : Kind) → cond (not e) (Bad 12) (cond l (Bad 11) (cond a (Good j) (Bad 14))) ≡ Good k
+    → (e ≡ true) × (l ≡ false) × (a ≡ true) × (j ≡ k)
 tests false l a j k p = never 12 k p
 tests true true a j k p = never 11 k p
 tests true false false j k p = never 14 k p
-tests true false true j k p = (refl, refl, cc)
+tests true false true j k p = (refl, refl, refl, cc)
 
 front : (a b : Bool) (h : Head) (k : Kind) → cond a (Bad 11) (cond b (Bad 12) h) ≡ Good k → h ≡ Good k
 front true b h k p = never 11 k p
 front false true h k p = never 12 k p
 front false false h k p = p
 
-abbrev pub Holds : Kind → List ℕ → Type 0
-Holds k s = (lengthOf k ≤ length s) × (allFinite (numbersFrom 0 (countOf k) s) ≡ true)
+-- what each test has shown
+pub record Holds (k : Kind) (s : List ℕ) : Type 0 where
+  pub length-field : field 0 2 s ≡ lengthOf k
+  pub size : lengthOf k ≤ length s
+  pub vehicle : vehicleAt s ≤ 1
+  pub byte : byteAt s ≤ topOf k
+  pub numbers : allFinite (numbersFrom 0 (countOf k) s) ≡ true
 
-judged-good : (f : Found) (s : List ℕ) (k : Kind) → judged f s ≡ Good k → Holds k s
+judged-good : (f : Found) (s : List ℕ) (k : Kind) → judged f s ≡ Good k → (f ≡ Known k) × Holds k s
 judged-good Unknown s k p = never 13 k p
 judged-good (Known j) s k p =
     let t = tests (eqb (field 0 2 s) (lengthOf j)) (ltb (length s) (lengthOf j)) (allowedAt j s) j k p in
-    rw (← t .2) (
-      ltb-false (length s) (lengthOf j) (t .0),
-      both (leb (vehicleAt s) 1 && leb (byteAt s) (topOf j)) (allFinite (numbersFrom 0 (countOf j) s)) (t .1) .1,
+    let b = both (leb (vehicleAt s) 1 && leb (byteAt s) (topOf j)) (allFinite (numbersFrom 0 (countOf j) s)) (t .2) in
+    let d = both (leb (vehicleAt s) 1) (leb (byteAt s) (topOf j)) (b .0) in
+    rw (← t .3) (
+      refl,
+      record {
+        length-field = eqb-true (field 0 2 s) (lengthOf j) (t .0);
+        size = ltb-false (length s) (lengthOf j) (t .1);
+        vehicle = leb-true (vehicleAt s) 1 (d .0);
+        byte = leb-true (byteAt s) (topOf j) (d .1);
+        numbers = b .1;
+      },
     )
 
+good : (s : List ℕ) (k : Kind) → headOf s ≡ Good k → (kindOf (field 2 2 s) ≡ Known k) × Holds k s
+good s k p = judged-good (kindOf (field 2 2 s)) s k (front (ltb (length s) 4) (ltb (field 0 2 s) 4) (judged (kindOf (field 2 2 s)) s) k p)
+
+pub good-kind : (s : List ℕ) (k : Kind) → headOf s ≡ Good k → kindOf (field 2 2 s) ≡ Known k
+good-kind s k p = good s k p .0
+
 pub good-head : (s : List ℕ) (k : Kind) → headOf s ≡ Good k → Holds k s
-good-head s k p = judged-good (kindOf (field 2 2 s)) s k (front (ltb (length s) 4) (ltb (field 0 2 s) 4) (judged (kindOf (field 2 2 s)) s) k p)
+good-head s k p = good s k p .1
 
 fits-of : (h : Head) (s : List ℕ) (r : Record) (n : ℕ) → h ≡ headOf s → decoded h s ≡ Whole r n → (30 ≤ n) × (n ≤ length s)
-fits-of (Good k) s r n e p = let q : lengthOf k ≡ n = cc in rw (← q) (long k, good-head s k (sym e) .0)
+fits-of (Good k) s r n e p = let q : lengthOf k ≡ n = cc in rw (← q) (long k, good-head s k (sym e) .size)
 fits-of (Bad x) s r n e p = let z : _≡_ {A = ℕ} 0 1 = cc in let w : ⊥ = omega arith in absurd w
 
 -- a record that was decoded lies within the bytes

@@ -4,4 +4,6 @@ pub mod Table
 pub mod Heads
 pub mod Stable
 pub mod Bytes
+pub mod ReadBack
+pub mod WriteBack
 pub mod Examples

@@ -97,7 +97,7 @@ module _ (s t : List ℕ) where
   head-more z = by-four (ltb (length s) 4) refl z
 
   by-head : (h : Head) → h ≡ headOf s → decoded h (s ++ t) ≡ decoded h s
-  by-head (Good k) e = ap (λ (r : Record). Whole r (lengthOf k)) (record-more k (good-head s k (sym e) .0))
+  by-head (Good k) e = ap (λ (r : Record). Whole r (lengthOf k)) (record-more k (good-head s k (sym e) .size))
   by-head (Bad x) e = refl
 
   pub stable : (decodeOf s ≡ Refused 11 → ⊥) → decodeOf (s ++ t) ≡ decodeOf s

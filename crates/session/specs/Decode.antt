@@ -1,10 +1,12 @@
 -- What one record at the front of some bytes is, and which records are allowed. Assumes nothing: these are definitions.
 use Prim.Native.Nat.{ℕ}
-use mathlib.Core.List.{List}
+use mathlib.Core.List.{List, [], _∷_}
 use mathlib.Core.Bool.{Bool, cond, not, _&&_}
 use lib.ListN.{length}
-use lib.Dec.{ltb, leb, eqb}
-use lib.Ieee.{Float}
+use lib.Dec.{T, ltb, leb, eqb}
+use lib.Ieee.{Float, binary64, fits}
+use mir.Syntax.{w64}
+use mir.Val.{SFits}
 use Rattle.session.specs.declared.record.Kind.{Kind}
 use Rattle.session.specs.declared.record.Found.{Found}
 use Rattle.session.specs.declared.record.Found.the-variants.{Known, Unknown}
@@ -15,7 +17,7 @@ use Rattle.session.specs.declared.record.Decoded.{Decoded}
 use Rattle.session.specs.declared.record.Decoded.the-variants.{Whole, Refused}
 use Rattle.session.specs.Bytes.{field}
 use Rattle.session.specs.Kinds.{kindOf, lengthOf, countOf, topOf}
-use Rattle.session.specs.Layout.{vehicleAt, byteAt, numbersFrom, allFinite, recordAt, kindIn, vehicleIn, byteIn, numbersIn}
+use Rattle.session.specs.Layout.{vehicleAt, byteAt, numbersFrom, allFinite, recordAt, kindIn, vehicleIn, byteIn, timeIn, numbersIn}
 
 -- what a vehicle, a byte and numbers may be: else 14
 abbrev pub allowed : Kind → ℕ → ℕ → List Float → Bool
@@ -43,3 +45,12 @@ decoded (Bad n) s = Refused n
 
 abbrev pub decodeOf : List ℕ → Decoded
 decodeOf s = decoded (headOf s) s
+
+-- a record as memory holds it: a time of 64 bits, and numbers of binary64
+abbrev pub AllFit : List Float → Type 0
+AllFit [] = Unit {0}
+AllFit (x ∷ xs) = T (fits binary64 x) × AllFit xs
+
+pub record Held (r : Record) : Type 0 where
+  pub time : SFits w64 (timeIn r)
+  pub numbers : AllFit (numbersIn r)

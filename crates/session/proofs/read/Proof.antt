@@ -1,3 +1,4 @@
+-- The tests ahead of the record in their order; the part behind the place is decoded, and the next place is not past the end. Assumes nothing.
 use lib.ListN.{take, drop, length-drop, length}
 use Rattle.session.specs.declared.record.Decoded.{Decoded}
 use Rattle.session.specs.Read.{placed}

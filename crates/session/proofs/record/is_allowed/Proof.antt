@@ -1,3 +1,4 @@
+-- The vehicle, the byte and the numbers, each by its own test. Assumes nothing.
 use borrow.Author.Tests.{le-leb, lt-leb}
 use Rattle.session.specs.Kinds.{topOf}
 use Rattle.session.specs.Layout.{byteAt}
