@@ -10,13 +10,12 @@ use Rattle.session.specs.declared.record.Record.the-variants as R
 use Rattle.session.specs.Layout.{numbersFrom, allFinite}
 use Rattle.session.specs.Read.{readAt}
 
-pub burn : List ℕ
+abbrev pub burn : List ℕ
 burn = 38 ∷ 0 ∷ 2 ∷ 0 ∷ 1 ∷ 0 ∷ 64 ∷ 0 ∷ 0 ∷ 0 ∷ 0 ∷ 0 ∷ 0 ∷ 0 ∷ 0 ∷ 0 ∷ 0 ∷ 0 ∷ 0 ∷ 0 ∷ 240 ∷ 63 ∷ 0 ∷ 0 ∷ 0 ∷ 0 ∷ 0 ∷ 0 ∷ 0 ∷ 0 ∷ 0 ∷ 0 ∷ 0 ∷ 0 ∷ 0 ∷ 0 ∷ 0 ∷ 0 ∷ []
 
 pub first : readAt burn 0 ≡ A.Record (R.Burn (record { vehicle = 1; time = pos 64; change = record { x = fin false 1 (pos 0); y = fin false 0 (pos 0); z = fin false 0 (pos 0) } })) (record { at = 38 })
-unfolding burn allFinite numbersFrom ofBits
+unfolding allFinite numbersFrom ofBits
 first = refl
 
 pub second : readAt burn 38 ≡ A.End
-unfolding burn
 second = refl

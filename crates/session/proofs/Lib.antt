@@ -2,6 +2,7 @@ pub mod Fields
 pub mod Numbers
 pub mod Table
 pub mod Heads
+pub mod Refusals
 pub mod Stable
 pub mod Bytes
 pub mod ReadBack
