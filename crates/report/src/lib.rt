@@ -43,7 +43,7 @@ pub fn fill(s: &[u8], next: Next, out: &mut [u8]) -> Filled
     }
 }
 
-fn is_done(next: Next) -> bool
+pub fn is_done(next: Next) -> bool
     ensures { λ r. ⌜ r ≡ isDone next ⌝ }
 {
     match next {
