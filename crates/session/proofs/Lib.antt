@@ -7,4 +7,5 @@ pub mod Stable
 pub mod Bytes
 pub mod ReadBack
 pub mod WriteBack
+pub mod Allowed
 pub mod Examples

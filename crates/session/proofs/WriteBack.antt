@@ -43,7 +43,7 @@ module _ (s : List ℕ) (bytes : Bytes s) where
       let p = take w (drop o s) in
       ap (λ (n : ℕ). bytesLe n (le p)) (sym (part-length o w h)) ∙ bytes-le p (bytes-take w (drop o s) (bytes-drop o s bytes))
 
-  field-below : (o w : ℕ) → o + w ≤ length s → field o w s < 256 ^ w
+  pub field-below : (o w : ℕ) → o + w ≤ length s → field o w s < 256 ^ w
   field-below o w h = rw (part-length o w h) at (le-below (take w (drop o s)) (bytes-take w (drop o s) (bytes-drop o s bytes)))
 
   -- the numbers

@@ -25,6 +25,10 @@ pub fn listing() {
         os::fail(b"listing: file name");
         return;
     }
+    if n == 0 {
+        io::write_all(STDERR_FILENO, b"listing: the file name is empty\n");
+        return;
+    }
     let fd = os::open_read(&path[..n]);
     if fd < 0 {
         os::fail(&path[..n]);
