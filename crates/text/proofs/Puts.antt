@@ -5,11 +5,11 @@ use mathlib.Core.Path.{_≡_, refl, sym, ap, _∙_}
 use mathlib.Core.List.{List, [], _∷_, _++_}
 use mathlib.Core.Bool.{Bool, true, false}
 use mathlib.Core.Logic.{_⊎_, inl, inr, ⊎-elim}
-use lib.ListN.{length, take, drop, take-append-drop}
+use lib.ListN.{length, take, drop, take-append-drop, length-append}
 use lib.Dec.{leb}
 use borrow.Author.Tests.{leb-true, leb-false, le-leb, lt-leb}
-use Rattle.text.specs.Text.{nowhere, Stands, Put}
-use Rattle.text.proofs.Stand.{same-size}
+use Rattle.text.specs.Text.{nowhere, Stands, IfFits, Put}
+use Rattle.text.proofs.Stand.{then, same-size}
 
 -- a text fits or it does not
 room : (m n : ℕ) (b : Bool) → leb m n ≡ b → (m ≤ n) ⊎ (n < m)
@@ -60,3 +60,9 @@ nowhere-stays {d} {x} {e} {r} l p =
     (λ h. let n = p .fits h .next in (p .fits h .whole ∙ stays d x r h l n, omega arith))
     (p .lacks)
     (either (nowhere + length x) (length d))
+
+-- a text put behind another makes one text, if both fit
+pub and-then : {d e f x y : List ℕ} {a r t : ℕ} → IfFits d a x e r → Put e r y f t → IfFits d a (x ++ y) f t
+and-then {d} {e} {f} {x} {y} {a} {r} {t} p q h =
+    let s = p (omega (arith, length-append x y)) in
+    then s (q .fits (omega (arith, length-append x y, s .next, same-size s)))

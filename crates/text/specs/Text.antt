@@ -17,9 +17,13 @@ pub record Stands (d : List ℕ) (at : ℕ) (x : List ℕ) (e : List ℕ) (r : �
   pub within : r ≤ length d
   pub whole : e ≡ take at d ++ (x ++ drop r d)
 
+-- the same, if it fits
+abbrev pub IfFits : List ℕ → ℕ → List ℕ → List ℕ → ℕ → Type 0
+IfFits d at x e r = at + length x ≤ length d → Stands d at x e r
+
 -- x is put into d at a place, which makes e, and r is answered: x stands there if it fits, else d stays as it was
 pub record Put (d : List ℕ) (at : ℕ) (x : List ℕ) (e : List ℕ) (r : ℕ) : Type 0 where
-  pub fits : at + length x ≤ length d → Stands d at x e r
+  pub fits : IfFits d at x e r
   pub lacks : length d < at + length x → (e ≡ d) × (r ≡ nowhere)
 
 -- the decimal digits of n, at most the last `left` of them
