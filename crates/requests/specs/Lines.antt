@@ -1,6 +1,6 @@
 -- A line of the desk as a request. Assumes nothing: these are definitions.
 use Prim.Native.Nat.{ℕ, _+_}
-use mathlib.Core.Bool.{Bool, cond, _||_}
+use mathlib.Core.Bool.{cond}
 use mathlib.Core.List.{List, [], _∷_}
 use lib.ListN.{length, getD}
 use lib.Dec.{eqb, ltb}
@@ -12,6 +12,8 @@ use Rattle.vector.specs.declared.State.{State}
 use Rattle.vector.specs.Vectors.{stateOf}
 use Rattle.iterator.specs.declared.Judgement.{Judgement}
 use Rattle.iterator.specs.declared.Judgement.the-variants as I
+use Rattle.lambert.specs.declared.Way.{Way}
+use Rattle.lambert.specs.declared.Way.the-variants.{Short, Long}
 use Rattle.words.specs.Words.{wordAt, isWord}
 use Rattle.words.specs.Numbers.{numberOf, signedOf, wholeOf, judgedOf}
 use Rattle.words.specs.declared.reals.Number.{Number}
@@ -66,8 +68,8 @@ abbrev pub judgementAt : List ℕ → ℕ → Judgement
 judgementAt line k = judgementIn (judgedOf (wordAt k line))
 
 -- `long`, and else `short`
-abbrev pub longAt : List ℕ → ℕ → Bool
-longAt line k = isWord (wordAt k line) (108 ∷ 111 ∷ 110 ∷ 103 ∷ [])
+abbrev pub wayAt : List ℕ → ℕ → Way
+wayAt line k = cond (isWord (wordAt k line) (108 ∷ 111 ∷ 110 ∷ 103 ∷ [])) Long Short
 
 abbrev pub vectorAt : List ℕ → ℕ → Vector
 vectorAt line k = record { x = numberAt line k; y = numberAt line (k + 1); z = numberAt line (k + 2) }
@@ -84,7 +86,7 @@ madeOf R.C line = C (numberAt line 1)
 madeOf R.S line = S (numberAt line 1)
 madeOf R.Trial line = Trial (numberAt line 1) (signedAt line 2) (signedAt line 3) (judgementAt line 4) (judgementAt line 5) (wholeAt line 6)
 madeOf R.Kepler line = Kepler (numberAt line 1) (stateAt line) (numberAt line 8)
-madeOf R.Lambert line = Lambert (numberAt line 1) (vectorAt line 2) (vectorAt line 5) (numberAt line 8) (longAt line 9)
+madeOf R.Lambert line = Lambert (numberAt line 1) (vectorAt line 2) (vectorAt line 5) (numberAt line 8) (wayAt line 9)
 madeOf R.Theta line = Theta (numberAt line 1) (stateAt line) (numberAt line 8) (numberAt line 9)
 madeOf R.Apsides line = Apsides (numberAt line 1) (stateAt line)
 

@@ -1,13 +1,14 @@
 // A line as a request.
 ghost use Prim.Native.Nat.{_<_};
 ghost use mathlib.Core.Path.{_≡_};
-ghost use Rattle.requests.specs.Lines.{numberAt, signedAt, wholeAt, judgementAt, longAt, vectorAt, stateAt};
+ghost use Rattle.requests.specs.Lines.{numberAt, signedAt, wholeAt, judgementAt, wayAt, vectorAt, stateAt};
 ghost use Rattle.requests.specs.Lines.{madeOf, askedOf, requestOf};
 use crate::wants::Named;
 use crate::wants::Routine;
 use crate::wants::find_routine;
 use crate::wants::first_unread;
 use iterator::Judgement;
+use lambert::Way;
 use vector::State;
 use vector::Vector;
 use words::Judged;
@@ -40,7 +41,7 @@ pub enum Request {
         first: Vector,
         second: Vector,
         time: f64,
-        long: bool,
+        way: Way,
     },
     Theta {
         mu: f64,
@@ -95,10 +96,13 @@ fn judgement_at(line: &[u8], k: u64) -> Judgement
     }
 }
 
-fn long_at(line: &[u8], k: u64) -> bool
-    ensures { λ r. ⌜ r ≡ longAt (now (line .entry)) k ⌝ }
+fn way_at(line: &[u8], k: u64) -> Way
+    ensures { λ r. ⌜ r ≡ wayAt (now (line .entry)) k ⌝ }
 {
-    words::is_word(words::word(line, k), b"long")
+    if words::is_word(words::word(line, k), b"long") {
+        return Way::Long;
+    }
+    Way::Short
 }
 
 fn vector_at(line: &[u8], k: u64) -> Vector
@@ -154,13 +158,13 @@ fn lambert(line: &[u8]) -> Request
     let first = vector_at(line, 2);
     let second = vector_at(line, 5);
     let time = number_at(line, 8);
-    let long = long_at(line, 9);
+    let way = way_at(line, 9);
     Request::Lambert {
         mu,
         first,
         second,
         time,
-        long,
+        way,
     }
 }
 
