@@ -1,0 +1,21 @@
+-- What either judge answers is under, over, or a computed time judged. Assumes nothing.
+use lib.IntN.{ℤ}
+use lib.Ieee.{Float}
+use Rattle.iterator.proofs.Single.{Told, over, timed}
+use Rattle.conic.specs.declared.Trial.{Trial}
+use Rattle.conic.specs.declared.Trial.the-variants as T
+use Rattle.kepler.specs.Kepler.{judgedTrial, trialAt}
+use Rattle.solve.specs.Toy.{lambertJudge}
+use Rattle.solve.specs.Solve.{judgeOf}
+use Rattle.solve.specs.declared.Problem.{Problem}
+use Rattle.solve.specs.declared.Problem.the-variants.{Kepler, Lambert}
+
+kepler-told : (asked : Float) (t : Trial) → Told asked (judgedTrial asked t)
+unfolding judgedTrial
+kepler-told asked (T.At p) = timed (p .t)
+kepler-told asked T.Out = over
+
+pub told : (problem : Problem) (asked : Float) (n : ℤ) → Told asked (judgeOf problem asked n)
+unfolding lambertJudge
+told (Kepler m) asked n = kepler-told asked (trialAt m n)
+told (Lambert m) asked n = timed _
