@@ -9,7 +9,7 @@ use Rattle.vector.specs.declared.State.{State}
 use Rattle.vector.specs.declared.rows.Test.{Test}
 use Rattle.vector.specs.declared.rows.Test.the-variants.{Passed, Failed}
 use Rattle.vector.specs.Vectors.{positionOf, velocityOf, stateOf, dotOf, lengthOf, scaledOf, sumOf, negatedOf}
-use Rattle.vector.specs.Rows.{holdsOf, _▷_, finiteNumber, finiteVector, muRow, positionRow, positionComponents, velocityComponents, timeRow}
+use Rattle.vector.specs.Rows.{holdsOf, _▷_, finiteNumber, finiteInputs, stateRows, positionComponents, velocityComponents, timeRow}
 use Rattle.conic.specs.declared.Orbit.{Orbit}
 use Rattle.conic.specs.declared.Point.{Point}
 use Rattle.conic.specs.declared.Trial.{Trial}
@@ -41,10 +41,6 @@ motionOf mu s = record {
   alpha = (f1 ⊖ orbitOf mu s .c2) ⊘ orbitOf mu s .r1;
 }
 
--- 1, of the inputs in the order written: mu is input 0, the position 1, the velocity 2, the time 3
-abbrev pub finiteRow : Float → Vector → Vector → Float → Test
-finiteRow mu r v t = finiteNumber 0 mu ▷ finiteVector 1 r ▷ finiteVector 2 v ▷ finiteNumber 3 t
-
 -- 6: |c1| < 2^17, |c2| < 2^6
 abbrev pub derivedRow : Orbit → Test
 derivedRow o = holdsOf (sizeOf (o .c1) <ᶠ two^ 17) 6 0 0 (o .c1) ▷ c2Row 1 (o .c2)
@@ -52,10 +48,9 @@ derivedRow o = holdsOf (sizeOf (o .c1) <ᶠ two^ 17) 6 0 0 (o .c1) ▷ c2Row 1 (
 -- the tests ahead of the first trial, in the order of the rows
 abbrev pub keplerTests : Float → State → Float → Motion → Test
 keplerTests mu s t m =
-    finiteRow mu (positionOf s) (velocityOf s) t
-    ▷ muRow mu
-    ▷ positionRow 1 (positionOf s) (m .orbit .r1)
-    ▷ velocityComponents 4 2 (velocityOf s)
+    finiteInputs mu (positionOf s) (velocityOf s)
+    ▷ finiteNumber 3 t
+    ▷ stateRows mu s (m .orbit .r1)
     ▷ timeRow 3 t
     ▷ derivedRow (m .orbit)
 

@@ -9,7 +9,7 @@ use vector::State;
 use vector::Test;
 use vector::Vector;
 ghost use mathlib.Core.Path.{_≡_};
-ghost use Rattle.kepler.specs.Kepler.{turnedOf, motionOf, derivedRow, finiteRow, keplerTests, trialAt, keplerJudge, r2Of, v2Of, resultRow, arrivedOf, arrivalOf};
+ghost use Rattle.kepler.specs.Kepler.{turnedOf, motionOf, derivedRow, keplerTests, trialAt, keplerJudge, r2Of, v2Of, resultRow, arrivedOf, arrivalOf};
 
 // What the trials of one solve share: the orbit's numbers, and α.
 pub struct Motion {
@@ -55,27 +55,16 @@ fn derived_row(o: Orbit) -> Test
     vector::first(c1, conic::c2_row(1, o.c2))
 }
 
-// The inputs of row 1 in the order written: mu, the position, the velocity, the time.
-fn finite_row(mu: f64, r: Vector, v: Vector, t: f64) -> Test
-    ensures { λ x. ⌜ x ≡ finiteRow mu r v t ⌝ }
-{
-    let a = vector::first(vector::finite_number(0, mu), vector::finite_vector(1, r));
-    let b = vector::first(a, vector::finite_vector(2, v));
-    vector::first(b, vector::finite_number(3, t))
-}
-
 // Rows 1 to 6, ahead of the first trial.
 pub fn tests(mu: f64, s: State, t: f64, m: Motion) -> Test
     ensures { λ r. ⌜ r ≡ keplerTests mu s t m ⌝ }
 {
-    let r = vector::position(s);
-    let v = vector::velocity(s);
     let o = m.orbit;
-    let a = vector::first(finite_row(mu, r, v, t), vector::mu_row(mu));
-    let b = vector::first(a, vector::position_row(1, r, o.r1));
-    let c = vector::first(b, vector::velocity_components(4, 2, v));
-    let d = vector::first(c, vector::time_row(3, t));
-    vector::first(d, derived_row(o))
+    let inputs = vector::finite_inputs(mu, vector::position(s), vector::velocity(s));
+    let a = vector::first(inputs, vector::finite_number(3, t));
+    let b = vector::first(a, vector::state_rows(mu, s, o.r1));
+    let c = vector::first(b, vector::time_row(3, t));
+    vector::first(c, derived_row(o))
 }
 
 // The trial at grid point n.

@@ -5,6 +5,8 @@ use mathlib.Core.Bool.{Bool, cond, _&&_}
 use lib.Ieee.{Float}
 use Rattle.real.specs.F64.{_≤ᶠ_, _<ᶠ_, two^, f0, finite, sizeOf}
 use Rattle.vector.specs.declared.Vector.{Vector}
+use Rattle.vector.specs.declared.State.{State}
+use Rattle.vector.specs.Vectors.{positionOf, velocityOf}
 use Rattle.vector.specs.declared.rows.Test.{Test}
 use Rattle.vector.specs.declared.rows.Test.the-variants.{Passed, Failed}
 
@@ -32,6 +34,10 @@ abbrev pub finiteVector : ℕ → Vector → Test
 finiteVector input a =
     holdsOf (finite (a .x)) 1 input 0 (a .x) ▷ holdsOf (finite (a .y)) 1 input 1 (a .y) ▷ holdsOf (finite (a .z)) 1 input 2 (a .z)
 
+-- of mu and two vectors, in the order written: mu is input 0, the vectors 1 and 2
+abbrev pub finiteInputs : Float → Vector → Vector → Test
+finiteInputs mu a b = finiteNumber 0 mu ▷ finiteVector 1 a ▷ finiteVector 2 b
+
 -- 2: mu is not in 2^28 ≤ mu < 2^36
 abbrev pub muRow : Float → Test
 muRow mu = holdsOf (two^ 28 ≤ᶠ mu && mu <ᶠ two^ 36) 2 0 0 mu
@@ -53,6 +59,10 @@ velocityComponents number input v =
     holdsOf (sizeOf (v .x) ≤ᶠ two^ 7) number input 0 (v .x)
     ▷ holdsOf (sizeOf (v .y) ≤ᶠ two^ 7) number input 1 (v .y)
     ▷ holdsOf (sizeOf (v .z) ≤ᶠ two^ 7) number input 2 (v .z)
+
+-- 2 to 4, of mu and a state whose position has this length
+abbrev pub stateRows : Float → State → Float → Test
+stateRows mu s length = muRow mu ▷ positionRow 1 (positionOf s) length ▷ velocityComponents 4 2 (velocityOf s)
 
 -- 5: time over 2^28 in size; for Lambert also time ≤ 0
 abbrev pub timeRow : ℕ → Float → Test

@@ -3,6 +3,7 @@ mod rows;
 
 pub use rows::Fault;
 pub use rows::Test;
+pub use rows::finite_inputs;
 pub use rows::finite_number;
 pub use rows::finite_vector;
 pub use rows::first;
@@ -10,6 +11,7 @@ pub use rows::holds;
 pub use rows::mu_row;
 pub use rows::position_components;
 pub use rows::position_row;
+pub use rows::state_rows;
 pub use rows::time_row;
 pub use rows::transfer_time_row;
 pub use rows::velocity_components;

@@ -1,8 +1,9 @@
 // The rows of the refusal table that look at an input alone, each once. A test that fails says which part of which
 // input it was, in the order written, and its amount; a routine that only refuses keeps the number.
+use crate::State;
 use crate::Vector;
 ghost use mathlib.Core.Path.{_≡_};
-ghost use Rattle.vector.specs.Rows.{holdsOf, _▷_, finiteNumber, finiteVector, muRow, positionComponents, positionRow, velocityComponents, timeRow, transferTimeRow};
+ghost use Rattle.vector.specs.Rows.{holdsOf, _▷_, finiteNumber, finiteVector, finiteInputs, muRow, positionComponents, positionRow, velocityComponents, stateRows, timeRow, transferTimeRow};
 
 // The row's number, the input it looked at, the part of it (x, y, z and the length are 0, 1, 2 and 3), and the amount.
 pub struct Fault {
@@ -58,6 +59,14 @@ pub fn finite_vector(input: u32, a: Vector) -> Test
     first(first(x, y), z)
 }
 
+// Row 1, of mu, the two vectors of a state or of a transfer, in the order written.
+pub fn finite_inputs(mu: f64, a: Vector, b: Vector) -> Test
+    ensures { λ r. ⌜ r ≡ finiteInputs mu a b ⌝ }
+{
+    let x = first(finite_number(0, mu), finite_vector(1, a));
+    first(x, finite_vector(2, b))
+}
+
 // Row 2.
 pub fn mu_row(mu: f64) -> Test
     ensures { λ r. ⌜ r ≡ muRow mu ⌝ }
@@ -94,6 +103,16 @@ pub fn velocity_components(number: u32, input: u32, v: Vector) -> Test
     let y = holds(real::size(v.y) <= 128.0, number, input, 1, v.y);
     let z = holds(real::size(v.z) <= 128.0, number, input, 2, v.z);
     first(first(x, y), z)
+}
+
+// Rows 2 to 4, of mu and a state whose position has this length.
+pub fn state_rows(mu: f64, s: State, length: f64) -> Test
+    ensures { λ t. ⌜ t ≡ stateRows mu s length ⌝ }
+{
+    let r = crate::position(s);
+    let v = crate::velocity(s);
+    let a = first(mu_row(mu), position_row(1, r, length));
+    first(a, velocity_components(4, 2, v))
 }
 
 // Row 5.

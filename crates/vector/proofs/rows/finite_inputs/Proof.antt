@@ -1,7 +1,7 @@
--- `kepler::finite_row` meets its contract. Assumes nothing.
+-- `vector::rows::finite_inputs` meets its contract. Assumes nothing.
 use borrow.Author.Needs.{needs}
-use Rattle.kepler.proofs.finite_row.Statement.{statement}
-use Rattle.kepler.proofs.finite_row.Tie as tie
+use Rattle.vector.proofs.rows.finite_inputs.Statement.{statement}
+use Rattle.vector.proofs.rows.finite_inputs.Tie as tie
 
 finite-number-requires : tie.Need-finite-number-requires
 finite-number-requires c κs = search needs
@@ -18,17 +18,11 @@ finite-vector-requires-2 c κs = search needs
 first-requires-2 : tie.Need-first-requires-2
 first-requires-2 c κs = search needs
 
-finite-number-requires-2 : tie.Need-finite-number-requires-2
-finite-number-requires-2 c κs = search needs
-
-first-requires-3 : tie.Need-first-requires-3
-first-requires-3 c κs = search needs
-
 returns : tie.Need-returns
 returns c = cc
 
-pub finite-row-spec : {M : Type 1} → statement M
-finite-row-spec =
+pub finite-inputs-spec : {M : Type 1} → statement M
+finite-inputs-spec =
     tie.close
     (tie.spec
     finite-number-requires
@@ -36,6 +30,4 @@ finite-row-spec =
     first-requires
     finite-vector-requires-2
     first-requires-2
-    finite-number-requires-2
-    first-requires-3
     returns)
