@@ -1,0 +1,139 @@
+-- Lambert: two positions and a time give a velocity, in the operations of f64 and in their order. Assumes nothing: these are definitions.
+use Prim.Native.Nat.{ℕ}
+use mathlib.Core.Bool.{cond, not}
+use lib.IntN.{ℤ}
+use lib.Ieee.{Float, neg}
+use Rattle.real.specs.F64.{_⊕_, _⊖_, _⊗_, _⊘_, _≤ᶠ_, _<ᶠ_, two^, two^-, f0, f1, f2}
+use Rattle.root.specs.Root.{rootOf}
+use Rattle.vector.specs.declared.Vector.{Vector}
+use Rattle.vector.specs.declared.rows.Test.{Test}
+use Rattle.vector.specs.Vectors.{dotOf, crossOf, lengthOf, scaledOf, sumOf, dividedOf, negatedOf}
+use Rattle.vector.specs.Rows.{holdsOf, _▷_, finiteNumber, finiteInputs, muRow, positionRow, velocityComponents, transferTimeRow}
+use Rattle.conic.specs.Conic.{gridOf}
+use Rattle.iterator.specs.declared.Judgement.{Judgement}
+use Rattle.iterator.specs.declared.Judgement.the-variants as J
+use Rattle.iterator.specs.Judged.{judgedOf}
+use Rattle.reach.specs.declared.Arc.{Arc}
+use Rattle.reach.specs.declared.Reached.{Reached}
+use Rattle.reach.specs.declared.Reached.the-variants.{Time, Under, Over}
+use Rattle.reach.specs.Reach.{cothalfOf, cothalfRow, reachOf}
+use Rattle.lambert.specs.declared.Way.{Way}
+use Rattle.lambert.specs.declared.Way.the-variants.{Short, Long}
+use Rattle.lambert.specs.declared.Turn.{Turn}
+use Rattle.lambert.specs.declared.Transfer.{Transfer}
+
+-- sinθ = |u1×u2|, negated for the long way round; normal = (u1×u2)/|u1×u2|, negated likewise
+unfoldable pub turnOf : Vector → Vector → Way → Turn
+turnOf u1 u2 Short =
+    let h = crossOf u1 u2 in
+    record { size = lengthOf h; sin = lengthOf h; normal = dividedOf h (lengthOf h) }
+turnOf u1 u2 Long =
+    let h = crossOf u1 u2 in
+    record { size = lengthOf h; sin = neg (lengthOf h); normal = negatedOf (dividedOf h (lengthOf h)) }
+
+-- ratio = r1/r2, and the numbers that every trial needs
+abbrev pub sharedOf : Float → Float → Float → Vector → Float → Turn → Transfer
+sharedOf mu r1 r2 u1 cos turn = record {
+  mu = mu;
+  r1 = r1;
+  r2 = r2;
+  rootmu = rootOf mu;
+  rootr1 = rootOf r1;
+  ratio = r1 ⊘ r2;
+  cos = cos;
+  size = turn .size;
+  sin = turn .sin;
+  cothalf = cothalfOf (turn .sin) cos;
+  u1 = u1;
+  normal = turn .normal;
+}
+
+-- u = r/|r|; cosθ = u1·u2
+unfoldable pub transferOf : Float → Vector → Vector → Way → Transfer
+transferOf mu first second way =
+    let r1 = lengthOf first in
+    let r2 = lengthOf second in
+    let u1 = dividedOf first r1 in
+    let u2 = dividedOf second r2 in
+    sharedOf mu r1 r2 u1 (dotOf u1 u2) (turnOf u1 u2 way)
+
+-- 3, of both positions
+abbrev pub positionRows : Vector → Vector → Transfer → Test
+positionRows first second d = positionRow 1 first (d .r1) ▷ positionRow 2 second (d .r2)
+
+-- 10: |u1×u2| < 2^-10
+abbrev pub angleRow : Transfer → Test
+angleRow d = holdsOf (two^- 10 ≤ᶠ d .size) 10 0 0 (d .size)
+
+-- 6: r1/r2 < 2^7, |sinθ/(1−cosθ)| ≤ 2^5
+abbrev pub ratioRow : Transfer → Test
+ratioRow d = holdsOf (d .ratio <ᶠ two^ 7) 6 0 0 (d .ratio)
+
+abbrev pub derivedRows : Transfer → Test
+derivedRows d = angleRow d ▷ ratioRow d ▷ cothalfRow 1 (d .cothalf)
+
+-- the tests ahead of the first trial, in the order of the rows: mu is input 0, the first position 1, the second 2, the time 3
+abbrev pub lambertTests : Float → Vector → Vector → Float → Transfer → Test
+lambertTests mu first second t d =
+    finiteInputs mu first second
+    ▷ finiteNumber 3 t
+    ▷ muRow mu
+    ▷ positionRows first second d
+    ▷ transferTimeRow 3 t
+    ▷ derivedRows d
+
+-- 1. den = (ratio − cosθ) + sinθ·cot
+abbrev pub denOf : Transfer → Float → Float
+denOf d cot = (d .ratio ⊖ d .cos) ⊕ d .sin ⊗ cot
+
+-- 2. p = (1 − cosθ)/den
+abbrev pub pOf : Transfer → Float → Float
+pOf d cot = (f1 ⊖ d .cos) ⊘ denOf d cot
+
+-- 3. α_N = 2 − p·(1 + cot·cot)
+abbrev pub alphaOf : Float → Float → Float
+alphaOf p cot = f2 ⊖ p ⊗ (f1 ⊕ cot ⊗ cot)
+
+-- what steps 4 to 7 are given
+abbrev pub arcOf : Transfer → Float → Float → Arc
+arcOf d p cot = record {
+  r1 = d .r1;
+  rootr1 = d .rootr1;
+  rootmu = d .rootmu;
+  p = p;
+  cot = cot;
+  alpha = alphaOf p cot;
+  cothalf = d .cothalf;
+}
+
+-- under if sinθ > 0, else over
+unfoldable pub sideOf : Float → Reached
+sideOf sin = cond (f0 <ᶠ sin) Under Over
+
+-- Unless den > 0, or if p > 16: the side above. Then 4 to 7.
+unfoldable pub reachAt : Transfer → Float → Reached
+reachAt d cot =
+    let p = pOf d cot in
+    cond (not (f0 <ᶠ denOf d cot)) (sideOf (d .sin)) (cond (not (p ≤ᶠ two^ 4)) (sideOf (d .sin)) (reachOf (arcOf d p cot)))
+
+-- a time is judged against the time asked for
+unfoldable pub judgedReach : Float → Reached → Judgement
+judgedReach asked (Time t) = judgedOf asked t
+judgedReach asked Under = J.Under
+judgedReach asked Over = J.Over
+
+-- cot γ = n·2^-20
+abbrev pub lambertJudge : Transfer → Float → ℤ → Judgement
+lambertJudge d asked n = judgedReach asked (reachAt d (gridOf n))
+
+-- √((mu·p)/r1)·(cot·u1 + normal×u1)
+abbrev pub velocityAt : Transfer → Float → Vector
+velocityAt d cot =
+    scaledOf (rootOf (d .mu ⊗ pOf d cot ⊘ d .r1)) (sumOf (scaledOf cot (d .u1)) (crossOf (d .normal) (d .u1)))
+
+abbrev pub velocityOf : Transfer → ℤ → Vector
+velocityOf d n = velocityAt d (gridOf n)
+
+-- 9: each velocity component at most 2^7 in size
+abbrev pub resultRow : Vector → Test
+resultRow v = velocityComponents 9 0 v

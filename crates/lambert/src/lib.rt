@@ -1,0 +1,199 @@
+// Lambert: two positions and a time give a velocity. Here are its tests ahead of the first trial, the judge of a grid
+// point, and the velocity at one; the trials themselves are run by `solve`.
+use iterator::Judgement;
+use reach::Arc;
+use reach::Reached;
+use vector::Test;
+use vector::Vector;
+ghost use mathlib.Core.Path.{_≡_};
+ghost use Rattle.lambert.specs.Lambert.{turnOf, sharedOf, transferOf, positionRows, derivedRows, lambertTests, denOf, pOf, arcOf, sideOf, reachAt, lambertJudge, velocityOf, resultRow};
+
+// The short way round from the first position to the second, or the long way.
+pub enum Way {
+    Short,
+    Long,
+}
+
+// What depends on the way: sinθ and the normal. The size |u1×u2| itself does not.
+struct Turn {
+    size: f64,
+    sin: f64,
+    normal: Vector,
+}
+
+// What the trials of one solve share: size is |u1×u2|, and cothalf is sinθ/(1 − cosθ).
+pub struct Transfer {
+    pub mu: f64,
+    pub r1: f64,
+    pub r2: f64,
+    pub rootmu: f64,
+    pub rootr1: f64,
+    pub ratio: f64,
+    pub cos: f64,
+    pub size: f64,
+    pub sin: f64,
+    pub cothalf: f64,
+    pub u1: Vector,
+    pub normal: Vector,
+}
+
+fn turn_of(u1: Vector, u2: Vector, way: Way) -> Turn
+    ensures { λ r. ⌜ r ≡ turnOf u1 u2 way ⌝ }
+{
+    let h = vector::cross(u1, u2);
+    let size = vector::length(h);
+    let normal = vector::divided(h, size);
+    match way {
+        Way::Short => Turn {
+            size,
+            sin: size,
+            normal,
+        },
+        Way::Long => Turn {
+            size,
+            sin: -size,
+            normal: vector::negated(normal),
+        },
+    }
+}
+
+fn shared_of(mu: f64, r1: f64, r2: f64, u1: Vector, cos: f64, turn: Turn) -> Transfer
+    ensures { λ r. ⌜ r ≡ sharedOf mu r1 r2 u1 cos turn ⌝ }
+{
+    let normal = turn.normal;
+    Transfer {
+        mu,
+        r1,
+        r2,
+        rootmu: root::square_root(mu),
+        rootr1: root::square_root(r1),
+        ratio: r1 / r2,
+        cos,
+        size: turn.size,
+        sin: turn.sin,
+        cothalf: reach::cothalf(turn.sin, cos),
+        u1,
+        normal,
+    }
+}
+
+pub fn transfer_of(mu: f64, first: Vector, second: Vector, way: Way) -> Transfer
+    ensures { λ r. ⌜ r ≡ transferOf mu first second way ⌝ }
+{
+    let r1 = vector::length(first);
+    let r2 = vector::length(second);
+    let u1 = vector::divided(first, r1);
+    let u2 = vector::divided(second, r2);
+    let turn = turn_of(u1, u2, way);
+    shared_of(mu, r1, r2, u1, vector::dot(u1, u2), turn)
+}
+
+// Row 3, of both positions.
+fn position_rows(first: Vector, second: Vector, d: Transfer) -> Test
+    ensures { λ r. ⌜ r ≡ positionRows first second d ⌝ }
+{
+    let a = vector::position_row(1, first, d.r1);
+    vector::first(a, vector::position_row(2, second, d.r2))
+}
+
+// Rows 10 and 6: 2^-10 ≤ |u1×u2|, then r1/r2 < 2^7, then |sinθ/(1−cosθ)| ≤ 2^5.
+fn derived_rows(d: Transfer) -> Test
+    ensures { λ r. ⌜ r ≡ derivedRows d ⌝ }
+{
+    let a = vector::holds(9.765625e-4 <= d.size, 10, 0, 0, d.size);
+    let b = vector::first(a, vector::holds(d.ratio < 128.0, 6, 0, 0, d.ratio));
+    vector::first(b, reach::cothalf_row(1, d.cothalf))
+}
+
+// Rows 1, 2, 3, 5, 10 and 6, ahead of the first trial.
+pub fn tests(mu: f64, first: Vector, second: Vector, t: f64, d: Transfer) -> Test
+    ensures { λ r. ⌜ r ≡ lambertTests mu first second t d ⌝ }
+{
+    let inputs = vector::finite_inputs(mu, first, second);
+    let a = vector::first(inputs, vector::finite_number(3, t));
+    let b = vector::first(a, vector::mu_row(mu));
+    let c = vector::first(b, position_rows(first, second, d));
+    let e = vector::first(c, vector::transfer_time_row(3, t));
+    vector::first(e, derived_rows(d))
+}
+
+fn den_at(d: Transfer, cot: f64) -> f64
+    ensures { λ r. ⌜ r ≡ denOf d cot ⌝ }
+{
+    (d.ratio - d.cos) + d.sin * cot
+}
+
+fn p_at(d: Transfer, cot: f64) -> f64
+    ensures { λ r. ⌜ r ≡ pOf d cot ⌝ }
+{
+    (1.0 - d.cos) / den_at(d, cot)
+}
+
+// Step 3, and what steps 4 to 7 are given.
+fn arc_at(d: Transfer, p: f64, cot: f64) -> Arc
+    ensures { λ r. ⌜ r ≡ arcOf d p cot ⌝ }
+{
+    Arc {
+        r1: d.r1,
+        rootr1: d.rootr1,
+        rootmu: d.rootmu,
+        p,
+        cot,
+        alpha: 2.0 - p * (1.0 + cot * cot),
+        cothalf: d.cothalf,
+    }
+}
+
+// Where a step gives no p: under if sinθ > 0, else over.
+fn side(sin: f64) -> Reached
+    ensures { λ r. ⌜ r ≡ sideOf sin ⌝ }
+{
+    if 0.0 < sin {
+        return Reached::Under;
+    }
+    Reached::Over
+}
+
+// Steps 1 to 7.
+fn reach_at(d: Transfer, cot: f64) -> Reached
+    ensures { λ r. ⌜ r ≡ reachAt d cot ⌝ }
+{
+    if !(0.0 < den_at(d, cot)) {
+        return side(d.sin);
+    }
+    let p = p_at(d, cot);
+    if !(p <= 16.0) {
+        return side(d.sin);
+    }
+    reach::reach_of(arc_at(d, p, cot))
+}
+
+// The judgement of grid point n.
+pub fn judge(d: Transfer, asked: f64, n: i64) -> Judgement
+    ensures { λ r. ⌜ r ≡ lambertJudge d asked n ⌝ }
+{
+    match reach_at(d, conic::grid(n)) {
+        Reached::Time(t) => iterator::judged(asked, t),
+        Reached::Under => Judgement::Under,
+        Reached::Over => Judgement::Over,
+    }
+}
+
+// The velocity at grid point n.
+pub fn velocity_at(d: Transfer, n: i64) -> Vector
+    ensures { λ r. ⌜ r ≡ velocityOf d n ⌝ }
+{
+    let cot = conic::grid(n);
+    let k = root::square_root(d.mu * p_at(d, cot) / d.r1);
+    let u1 = d.u1;
+    let normal = d.normal;
+    let along = vector::scaled(cot, u1);
+    vector::scaled(k, vector::sum(along, vector::cross(normal, u1)))
+}
+
+// Row 9, of the velocity.
+pub fn result_row(v: Vector) -> Test
+    ensures { λ r. ⌜ r ≡ resultRow v ⌝ }
+{
+    vector::velocity_components(9, 0, v)
+}
