@@ -3,28 +3,16 @@ use iterator::Bracket;
 use iterator::Judgement;
 use iterator::Tried;
 use kepler::Motion;
+use lambert::Transfer;
 ghost use mathlib.Core.Path.{_≡_};
 ghost use mathlib.Core.Bool.{true};
 ghost use Prim.Native.Nat.{_+_, _<_, _^_};
 ghost use Rattle.iterator.specs.Rule.{widthOf};
 ghost use Rattle.iterator.specs.Single.{soundOf};
 ghost use Rattle.iterator.specs.Run.{narrowed, run};
-ghost use Rattle.solve.specs.Toy.{lambertJudge};
 ghost use Rattle.real.specs.F64.{_≤ᶠ_, f0};
 ghost use Rattle.iterator.specs.Judged.{inTime};
 ghost use Rattle.solve.specs.Solve.{judgeOf, startOf};
-
-pub struct Transfer {
-    pub rate: f64,
-    pub pole: f64,
-    pub far: f64,
-}
-
-pub fn judge_lambert(m: Transfer, asked: f64, n: i64) -> Judgement
-    ensures { λ r. ⌜ r ≡ lambertJudge m asked n ⌝ }
-{
-    iterator::judged(asked, m.pole)
-}
 
 // The two problems.
 pub enum Problem {
@@ -37,7 +25,7 @@ fn judge(problem: Problem, asked: f64, n: i64) -> Judgement
 {
     match problem {
         Problem::Kepler(m) => kepler::judge(m, asked, n),
-        Problem::Lambert(m) => judge_lambert(m, asked, n),
+        Problem::Lambert(d) => lambert::judge(d, asked, n),
     }
 }
 

@@ -4,7 +4,7 @@ use borrow.Author.Needs.{needs}
 use lib.IntN.{ℤ}
 use mir.Facts.{toZ-ofZ}
 use Rattle.kepler.specs.Kepler.{keplerJudge}
-use Rattle.solve.specs.Toy.{lambertJudge}
+use Rattle.lambert.specs.Lambert.{lambertJudge}
 use Rattle.solve.specs.Solve.{judgeOf}
 use Rattle.solve.proofs.judge.Statement.{statement}
 use Rattle.solve.proofs.judge.Tie as tie
@@ -18,8 +18,8 @@ judge-requires c κs = search needs
 enum-known-problem-2 : tie.Need-enum-known-problem-2
 enum-known-problem-2 c = search needs
 
-judge-lambert-requires : tie.Need-judge-lambert-requires
-judge-lambert-requires c κs = search needs
+judge-requires-2 : tie.Need-judge-requires-2
+judge-requires-2 c κs = search needs
 
 returns : tie.Need-returns
 returns c =
@@ -33,7 +33,7 @@ returns-2 : tie.Need-returns-2
 returns-2 c =
     let i = c .before .before .before .before in
     let g = c .before .before .problem2 .given in
-    c .judge-lambert .ensures
+    c .judge2 .ensures
     ∙ ap (λ (z : ℤ). lambertJudge (g .0 .0) (i .args .asked) z) (toZ-ofZ (i .fits .n))
     ∙ sym (ap (λ p. judgeOf p (i .args .asked) (i .args .n)) (g .1))
 
@@ -44,6 +44,6 @@ judge-spec =
     enum-known-problem
     judge-requires
     enum-known-problem-2
-    judge-lambert-requires
+    judge-requires-2
     returns
     returns-2)
