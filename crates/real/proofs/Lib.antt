@@ -1,2 +1,4 @@
+-- The laws of the words of f64 that other proofs cite.
 pub mod CutLaws
 pub mod Bounds
+pub mod Finite

@@ -1,7 +1,8 @@
 -- Rows 1 to 5 of the refusal table. Every row says what must hold, and refuses unless it holds; so a NaN is refused.
 -- Assumes nothing: these are definitions.
 use Prim.Native.Nat.{ℕ}
-use mathlib.Core.Bool.{Bool, cond, _&&_}
+use mathlib.Core.Bool.{Bool, true, false, cond, _&&_}
+use mathlib.Core.List.{List, [], _∷_}
 use lib.Ieee.{Float}
 use Rattle.real.specs.F64.{_≤ᶠ_, _<ᶠ_, two^, f0, finite, sizeOf}
 use Rattle.vector.specs.declared.Vector.{Vector}
@@ -25,6 +26,22 @@ Failed f ▷ b = Failed f
 unfoldable pub numberOf : Test → ℕ
 numberOf Passed = 0
 numberOf (Failed f) = f .number
+
+unfoldable pub passes : Test → Bool
+passes Passed = true
+passes (Failed f) = false
+
+-- the table read as it stands: the number of the first row that applies, and 0 where none does
+pub record Row : Type 0 where
+  pub number : ℕ
+  pub test : Test
+
+abbrev pub row : ℕ → Test → Row
+row n t = record { number = n; test = t }
+
+unfoldable pub firstOf : List Row → ℕ
+firstOf [] = 0
+firstOf (r ∷ rs) = cond (passes (r .test)) (firstOf rs) (r .number)
 
 -- 1: an input number is infinite or not a number
 abbrev pub finiteNumber : ℕ → Float → Test
