@@ -1,3 +1,4 @@
 pub mod Told
 pub mod Going
 pub mod Starts
+pub mod Asked

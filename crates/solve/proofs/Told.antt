@@ -9,7 +9,7 @@ use Rattle.reach.specs.declared.Reached.{Reached}
 use Rattle.reach.specs.declared.Reached.the-variants.{Time, Under, Over}
 use Rattle.conic.specs.Conic.{gridOf}
 use Rattle.lambert.specs.Lambert.{judgedReach, reachAt}
-use Rattle.solve.specs.Solve.{judgeOf}
+use Rattle.solve.specs.Problems.{judgeOf}
 use Rattle.solve.specs.declared.Problem.{Problem}
 use Rattle.solve.specs.declared.Problem.the-variants.{Kepler, Lambert}
 

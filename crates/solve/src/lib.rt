@@ -1,9 +1,14 @@
-// The iterated solves, on one loop.
+// The iterated solves: the advance of a state and the velocity of a transfer, on one loop.
 use iterator::Bracket;
 use iterator::Judgement;
 use iterator::Tried;
+use kepler::Arrival;
 use kepler::Motion;
 use lambert::Transfer;
+use lambert::Way;
+use vector::State;
+use vector::Test;
+use vector::Vector;
 ghost use mathlib.Core.Path.{_≡_};
 ghost use mathlib.Core.Bool.{true};
 ghost use Prim.Native.Nat.{_+_, _<_, _^_};
@@ -12,10 +17,50 @@ ghost use Rattle.iterator.specs.Single.{soundOf};
 ghost use Rattle.iterator.specs.Run.{narrowed, run};
 ghost use Rattle.real.specs.F64.{_≤ᶠ_, f0};
 ghost use Rattle.iterator.specs.Judged.{inTime};
-ghost use Rattle.solve.specs.Solve.{judgeOf, startOf};
+ghost use Rattle.solve.specs.Problems.{judgeOf, startOf};
+ghost use Rattle.solve.specs.Answers.{gradeOf, endingOf, outcomeOf, arrivedAs, advanceOf, movedAs, transferVelocityOf};
+
+// How near the time found comes to the time asked for.
+pub enum Grade {
+    Closed,
+    Fair,
+    Rough,
+}
+
+// Where the trials ended: the lower neighbour's grid point and time, err, its grade, and the number of trials.
+pub struct Solution {
+    pub n: i64,
+    pub t: f64,
+    pub err: f64,
+    pub grade: Grade,
+    pub count: u64,
+}
+
+// What the two neighbours come to.
+enum Outcome {
+    Met(Solution),
+    TooLong,
+    TooShort,
+}
+
+// The state found, or why there is none.
+pub enum Advanced {
+    Found(State, Solution),
+    TooLong,
+    TooShort,
+    Refused(u32),
+}
+
+// The velocity found, or why there is none.
+pub enum Transferred {
+    Found(Vector, Solution),
+    TooLong,
+    TooShort,
+    Refused(u32),
+}
 
 // The two problems.
-pub enum Problem {
+enum Problem {
     Kepler(Motion),
     Lambert(Transfer),
 }
@@ -94,9 +139,108 @@ fn start(problem: Problem) -> Bracket
     }
 }
 
+// The neighbours that the trials end on.
 fn neighbours(problem: Problem, asked: f64) -> Bracket
     requires { ⌜ inTime asked ≡ true ⌝ ∗ ⌜ (f0 ≤ᶠ asked) ≡ true ⌝ }
     ensures { λ r. ⌜ r ≡ run (judgeOf problem asked) asked (startOf problem) ⌝ }
 {
     iterate(problem, asked, start(problem))
+}
+
+// By the fractions 2^-20 and 2^-10 of the size of time asked for.
+fn graded(size: f64, err: f64) -> Grade
+    ensures { λ r. ⌜ r ≡ gradeOf size err ⌝ }
+{
+    if err <= size * 9.5367431640625e-7 {
+        return Grade::Closed;
+    }
+    if err <= size * 9.765625e-4 {
+        return Grade::Fair;
+    }
+    Grade::Rough
+}
+
+// A time is too short where the lower neighbour has none, and too long where only the upper one has none.
+fn ending(size: f64, asked: f64, s: Bracket) -> Outcome
+    ensures { λ r. ⌜ r ≡ endingOf size asked s ⌝ }
+{
+    let below = s.below;
+    let above = s.above;
+    let Judgement::Low(t) = below else {
+        return Outcome::TooShort;
+    };
+    let Judgement::High(_) = above else {
+        return Outcome::TooLong;
+    };
+    let err = asked - t;
+    let grade = graded(size, err);
+    Outcome::Met(Solution {
+        n: s.lo,
+        t,
+        err,
+        grade,
+        count: s.count,
+    })
+}
+
+fn solved(problem: Problem, size: f64, asked: f64) -> Outcome
+    requires { ⌜ inTime asked ≡ true ⌝ ∗ ⌜ (f0 ≤ᶠ asked) ≡ true ⌝ }
+    ensures { λ r. ⌜ r ≡ outcomeOf problem size asked ⌝ }
+{
+    ending(size, asked, neighbours(problem, asked))
+}
+
+// The state at the lower neighbour, its velocity turned back if t is negative.
+fn arrived(m: Motion, from: State, t: f64, o: Outcome) -> Advanced
+    ensures { λ r. ⌜ r ≡ arrivedAs m from t o ⌝ }
+{
+    match o {
+        Outcome::TooShort => Advanced::TooShort,
+        Outcome::TooLong => Advanced::TooLong,
+        Outcome::Met(x) => match kepler::arrive(m, from, x.n) {
+            Arrival::At(s) => Advanced::Found(kepler::turned(t, s), x),
+            Arrival::Out(f) => Advanced::Refused(f.number),
+        },
+    }
+}
+
+// The state s forward by t, or back if t is negative.
+pub fn advance(mu: f64, s: State, t: f64) -> Advanced
+    ensures { λ r. ⌜ r ≡ advanceOf mu s t ⌝ }
+{
+    let asked = real::size(t);
+    let from = kepler::turned(t, s);
+    let m = kepler::motion_of(mu, from);
+    match kepler::tests(mu, s, t, m) {
+        Test::Failed(f) => Advanced::Refused(f.number),
+        Test::Passed => arrived(m, from, t, solved(Problem::Kepler(m), asked, asked)),
+    }
+}
+
+// The velocity at the lower neighbour.
+fn moved(d: Transfer, o: Outcome) -> Transferred
+    ensures { λ r. ⌜ r ≡ movedAs d o ⌝ }
+{
+    match o {
+        Outcome::TooShort => Transferred::TooShort,
+        Outcome::TooLong => Transferred::TooLong,
+        Outcome::Met(x) => {
+            let v = lambert::velocity_at(d, x.n);
+            match lambert::result_row(v) {
+                Test::Passed => Transferred::Found(v, x),
+                Test::Failed(f) => Transferred::Refused(f.number),
+            }
+        }
+    }
+}
+
+// The velocity at the first position that leads to the second in the time t.
+pub fn transfer_velocity(mu: f64, first: Vector, second: Vector, way: Way, t: f64) -> Transferred
+    ensures { λ r. ⌜ r ≡ transferVelocityOf mu first second way t ⌝ }
+{
+    let d = lambert::transfer_of(mu, first, second, way);
+    match lambert::tests(mu, first, second, t, d) {
+        Test::Failed(f) => Transferred::Refused(f.number),
+        Test::Passed => moved(d, solved(Problem::Lambert(d), t, t)),
+    }
 }
