@@ -42,8 +42,8 @@ module _ (judge : ℤ → Judgement) (asked : Float) where
   ends-judged s h =
       run-keeps judge asked (Judged judge s)
       (λ r w b.
-        let i = inside asked r (b .order) w in
-        trial-judged s r (nextPoint asked r) (judge (nextPoint asked r)) refl (i .0) (i .1) b)
+      let i = inside asked r (b .order) w in
+      trial-judged s r (nextPoint asked r) (judge (nextPoint asked r)) refl (i .0) (i .1) b)
       s
       (record { order = h; lower = inl (refl, refl); upper = inl (refl, refl) })
 

@@ -10,7 +10,6 @@ use Rattle.vector.specs.declared.rows.Test.the-variants.{Passed, Failed}
 use Rattle.iterator.specs.declared.Judgement.{Judgement}
 use Rattle.iterator.specs.declared.Judgement.the-variants.{Low, High, Under, Over}
 use Rattle.iterator.specs.declared.Bracket.{Bracket}
-use Rattle.iterator.specs.Run.{run}
 use Rattle.kepler.specs.declared.Motion.{Motion}
 use Rattle.kepler.specs.declared.Arrival.{Arrival}
 use Rattle.kepler.specs.declared.Arrival.the-variants.{At, Out}
@@ -18,7 +17,7 @@ use Rattle.kepler.specs.Kepler.{turnedOf, motionOf, keplerTests, arrivalOf}
 use Rattle.lambert.specs.declared.Way.{Way}
 use Rattle.lambert.specs.declared.Transfer.{Transfer}
 use Rattle.lambert.specs.Lambert.{transferOf, lambertTests, velocityOf, resultRow}
-use Rattle.solve.specs.Problems.{judgeOf, startOf}
+use Rattle.solve.specs.Problems.{lastOf}
 use Rattle.solve.specs.declared.Problem.{Problem}
 use Rattle.solve.specs.declared.Problem.the-variants.{Kepler, Lambert}
 use Rattle.solve.specs.declared.Grade.{Grade}
@@ -54,7 +53,7 @@ endingOf size asked s = endingBy size asked s (s .below) (s .above)
 
 -- the trials are made for the time asked for, from the grid's own ends; `size` is what the grade is taken from
 abbrev pub outcomeOf : Problem → Float → Float → Outcome
-outcomeOf problem size asked = endingOf size asked (run (judgeOf problem asked) asked (startOf problem))
+outcomeOf problem size asked = endingOf size asked (lastOf problem asked)
 
 -- 9 for a result out of range; the velocity found is negated again
 unfoldable pub foundAs : Float → Solution → Arrival → Advanced
