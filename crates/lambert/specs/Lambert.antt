@@ -1,5 +1,4 @@
 -- Lambert: two positions and a time give a velocity, in the operations of f64 and in their order. Assumes nothing: these are definitions.
-use Prim.Native.Nat.{ℕ}
 use mathlib.Core.Bool.{cond, not}
 use lib.IntN.{ℤ}
 use lib.Ieee.{Float, neg}
@@ -61,26 +60,22 @@ transferOf mu first second way =
 abbrev pub positionRows : Vector → Vector → Transfer → Test
 positionRows first second d = positionRow 1 first (d .r1) ▷ positionRow 2 second (d .r2)
 
+-- 1, 2, 3 and 5: mu is input 0, the first position 1, the second 2, the time 3
+abbrev pub inputRows : Float → Vector → Vector → Float → Transfer → Test
+inputRows mu first second t d =
+    finiteInputs mu first second ▷ finiteNumber 3 t ▷ muRow mu ▷ positionRows first second d ▷ transferTimeRow 3 t
+
 -- 10: |u1×u2| < 2^-10
 abbrev pub angleRow : Transfer → Test
 angleRow d = holdsOf (two^- 10 ≤ᶠ d .size) 10 0 0 (d .size)
 
 -- 6: r1/r2 < 2^7, |sinθ/(1−cosθ)| ≤ 2^5
-abbrev pub ratioRow : Transfer → Test
-ratioRow d = holdsOf (d .ratio <ᶠ two^ 7) 6 0 0 (d .ratio)
+abbrev pub derivedRow : Transfer → Test
+derivedRow d = holdsOf (d .ratio <ᶠ two^ 7) 6 0 0 (d .ratio) ▷ cothalfRow 1 (d .cothalf)
 
-abbrev pub derivedRows : Transfer → Test
-derivedRows d = angleRow d ▷ ratioRow d ▷ cothalfRow 1 (d .cothalf)
-
--- the tests ahead of the first trial, in the order of the rows: mu is input 0, the first position 1, the second 2, the time 3
+-- the tests ahead of the first trial, in the order of the rows
 abbrev pub lambertTests : Float → Vector → Vector → Float → Transfer → Test
-lambertTests mu first second t d =
-    finiteInputs mu first second
-    ▷ finiteNumber 3 t
-    ▷ muRow mu
-    ▷ positionRows first second d
-    ▷ transferTimeRow 3 t
-    ▷ derivedRows d
+lambertTests mu first second t d = inputRows mu first second t d ▷ angleRow d ▷ derivedRow d
 
 -- 1. den = (ratio − cosθ) + sinθ·cot
 abbrev pub denOf : Transfer → Float → Float

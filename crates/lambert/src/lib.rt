@@ -6,7 +6,7 @@ use reach::Reached;
 use vector::Test;
 use vector::Vector;
 ghost use mathlib.Core.Path.{_≡_};
-ghost use Rattle.lambert.specs.Lambert.{turnOf, sharedOf, transferOf, positionRows, derivedRows, lambertTests, denOf, pOf, arcOf, sideOf, reachAt, lambertJudge, velocityOf, resultRow};
+ghost use Rattle.lambert.specs.Lambert.{turnOf, sharedOf, transferOf, positionRows, inputRows, angleRow, derivedRow, lambertTests, denOf, pOf, arcOf, sideOf, reachAt, lambertJudge, velocityOf, resultRow};
 
 // The short way round from the first position to the second, or the long way.
 pub enum Way {
@@ -96,25 +96,38 @@ fn position_rows(first: Vector, second: Vector, d: Transfer) -> Test
     vector::first(a, vector::position_row(2, second, d.r2))
 }
 
-// Rows 10 and 6: 2^-10 ≤ |u1×u2|, then r1/r2 < 2^7, then |sinθ/(1−cosθ)| ≤ 2^5.
-fn derived_rows(d: Transfer) -> Test
-    ensures { λ r. ⌜ r ≡ derivedRows d ⌝ }
+// Rows 1, 2, 3 and 5.
+fn input_rows(mu: f64, first: Vector, second: Vector, t: f64, d: Transfer) -> Test
+    ensures { λ r. ⌜ r ≡ inputRows mu first second t d ⌝ }
 {
-    let a = vector::holds(9.765625e-4 <= d.size, 10, 0, 0, d.size);
-    let b = vector::first(a, vector::holds(d.ratio < 128.0, 6, 0, 0, d.ratio));
-    vector::first(b, reach::cothalf_row(1, d.cothalf))
+    let inputs = vector::finite_inputs(mu, first, second);
+    let a = vector::first(inputs, vector::finite_number(3, t));
+    let b = vector::first(a, vector::mu_row(mu));
+    let c = vector::first(b, position_rows(first, second, d));
+    vector::first(c, vector::transfer_time_row(3, t))
+}
+
+// Row 10: 2^-10 ≤ |u1×u2|.
+fn angle_row(d: Transfer) -> Test
+    ensures { λ r. ⌜ r ≡ angleRow d ⌝ }
+{
+    vector::holds(9.765625e-4 <= d.size, 10, 0, 0, d.size)
+}
+
+// Row 6: r1/r2 < 2^7, then |sinθ/(1−cosθ)| ≤ 2^5.
+fn derived_row(d: Transfer) -> Test
+    ensures { λ r. ⌜ r ≡ derivedRow d ⌝ }
+{
+    let a = vector::holds(d.ratio < 128.0, 6, 0, 0, d.ratio);
+    vector::first(a, reach::cothalf_row(1, d.cothalf))
 }
 
 // Rows 1, 2, 3, 5, 10 and 6, ahead of the first trial.
 pub fn tests(mu: f64, first: Vector, second: Vector, t: f64, d: Transfer) -> Test
     ensures { λ r. ⌜ r ≡ lambertTests mu first second t d ⌝ }
 {
-    let inputs = vector::finite_inputs(mu, first, second);
-    let a = vector::first(inputs, vector::finite_number(3, t));
-    let b = vector::first(a, vector::mu_row(mu));
-    let c = vector::first(b, position_rows(first, second, d));
-    let e = vector::first(c, vector::transfer_time_row(3, t));
-    vector::first(e, derived_rows(d))
+    let a = vector::first(input_rows(mu, first, second, t, d), angle_row(d));
+    vector::first(a, derived_row(d))
 }
 
 fn den_at(d: Transfer, cot: f64) -> f64

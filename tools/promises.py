@@ -1,0 +1,60 @@
+#!/usr/bin/env python3
+"""Every routine that others call keeps its promise on paper: it has no `requires`, it has an `ensures`, and
+docs/PROMISES.md has a row for it. Prints each that does not, and ends with 1 if there is one."""
+import pathlib
+import re
+import sys
+
+ROOT = pathlib.Path(__file__).resolve().parent.parent
+PAGE = ROOT / "docs" / "PROMISES.md"
+
+
+def contract(lines, start):
+    """The text of a function's head: from `pub fn` to the line that opens its body."""
+    head = []
+    for line in lines[start:]:
+        head.append(line)
+        if line.rstrip() == "{" or (len(head) == 1 and line.rstrip().endswith("{")):
+            break
+    return "\n".join(head)
+
+
+def called_from_outside(crate):
+    """(file, line, name, head) of each function that another crate can call."""
+    face = (crate / "src" / "lib.rt").read_text()
+    for source in sorted(crate.glob("src/**/*.rt")):
+        inner = "::".join(source.relative_to(crate / "src").with_suffix("").parts)
+        open_module = inner == "lib" or re.search(rf"^pub mod {re.escape(inner)};", face, re.M)
+        lines = source.read_text().split("\n")
+        for number, line in enumerate(lines):
+            found = re.match(r"\s*pub (?:extern \"C\" )?fn (\w+)", line)
+            if not found:
+                continue
+            name = found.group(1)
+            if open_module or re.search(rf"^pub use {re.escape(inner)}::{name};", face, re.M):
+                yield source, number + 1, name, contract(lines, number)
+
+
+def main():
+    rows = re.findall(r"^\| `(\w+)::(\w+)`", PAGE.read_text(), re.M)
+    faults, seen = [], set()
+    for crate in sorted((ROOT / "crates").iterdir()):
+        if not (crate / "src" / "lib.rt").exists():
+            continue
+        for source, number, name, head in called_from_outside(crate):
+            place = f"{source.relative_to(ROOT)}:{number} {crate.name}::{name}"
+            seen.add((crate.name, name))
+            if re.search(r"^\s*requires\b", head, re.M):
+                faults.append(f"{place} has a requires: a caller could break it")
+            if not re.search(r"^\s*ensures\b", head, re.M):
+                faults.append(f"{place} has no ensures: it promises nothing")
+            if (crate.name, name) not in rows:
+                faults.append(f"{place} has no row in docs/PROMISES.md")
+    for crate, name in rows:
+        if (crate, name) not in seen:
+            faults.append(f"docs/PROMISES.md has a row for {crate}::{name}, and no such routine is public")
+    print("\n".join(faults + [f"{len(seen)} routines that others call, {len(faults)} without their promise"]))
+    return 1 if faults else 0
+
+
+sys.exit(main())
