@@ -120,5 +120,5 @@ kepler-asked mu s t m e = size-asked t (held _ 5 3 0 t (passes-right _ _ (passes
 
 pub lambert-asked : (mu : Float) (first second : Vector) (t : Float) (d : Transfer) → lambertTests mu first second t d ≡ Passed → Asked t
 lambert-asked mu first second t d e =
-    let h = passes-right _ _ (passes-left _ _ (passed e)) in
+    let h = passes-right _ _ (passes-left _ _ (passes-left _ _ (passed e))) in
     subst Asked (over-zero t (held _ 5 3 1 t (passes-right _ _ h))) (size-asked t (held _ 5 3 0 t (passes-left _ _ h)))
