@@ -38,7 +38,7 @@ top-finite : finite (two^ 28) ≡ true
 unfolding ofBits
 top-finite = refl
 
-neg-finite : (t : Float) → finite t ≡ true → finite (neg t) ≡ true
+pub neg-finite : (t : Float) → finite t ≡ true → finite (neg t) ≡ true
 unfolding neg
 neg-finite nan h = h
 neg-finite (inf s) h = h
