@@ -9,7 +9,7 @@ use mathlib.Core.Logic.{inl, inr}
 use lib.IntN.{ℤ}
 use lib.Dec.{T, lit≤, lt→ltb, ltb, eqb, ltb→lt, eqb→eq, eqb·suc-zero}
 use lib.Ieee as Ieee
-use lib.Ieee.{Float, nan, inf, fin, Format, binary64, up, down, odd, units, round, sum, add, mul, div, le, lt, eq, neg}
+use lib.Ieee.{Float, nan, inf, fin, Format, binary64, up, down, odd, units, round, sum, add, mul, div, le, lt, eq, neg, isNan}
 use lib.Ieee.Exact.{HasValue}
 use lib.Ieee.Order.{round-mono}
 use lib.Ieee.Back.{round-whole}
@@ -62,6 +62,15 @@ units-signed f s q k = go (ltb (q * 2 ^ k) (2 ^ (Ieee.low f + suc (Ieee.emax f))
 
 round-signed : (f : Format) (s : Bool) (n d : ℕ) → Signed (round f s n d) s
 round-signed f s n d = subst (λ (x : Float). Signed x s) (sym (round-is f s n d)) (units-signed f s _ _)
+
+-- so what is rounded is no NaN
+pub round-no-nan : (f : Format) (s : Bool) (n d : ℕ) → isNan (round f s n d) ≡ false
+round-no-nan f s n d = go (round f s n d) (round-signed f s n d)
+  where
+    go : (x : Float) → Signed x s → isNan x ≡ false
+    go nan h = absurd h
+    go (inf t) h = unfold isNan in refl
+    go (fin t m e) h = unfold isNan in refl
 
 odd-within : (d : ℕ) (s : Bool) (q k l a : ℕ) → Within (odd d false q k l) a → Within (odd d s q k l) a
 unfolding odd

@@ -1,14 +1,15 @@
 -- The number of a chain of tests is that of the first row that fails; what each row's tests say together. Assumes nothing.
 use Prim.Native.Nat.{ℕ}
-use mathlib.Core.Path.{_≡_, refl, sym, _∙_}
+use mathlib.Core.Path.{_≡_, refl, sym, ap, _∙_}
 use mathlib.Core.Bool.{Bool, true, false, cond, _&&_, false≢true}
+use mathlib.Core.List.{List, [], _∷_}
 use lib.Ieee.{Float, ofBits}
 use Rattle.real.specs.F64.{finite, two^}
 use Rattle.real.proofs.Finite.{size-under, size-at-most}
 use Rattle.vector.specs.declared.Vector.{Vector}
 use Rattle.vector.specs.declared.rows.Test.{Test}
 use Rattle.vector.specs.declared.rows.Test.the-variants.{Passed, Failed}
-use Rattle.vector.specs.Rows.{holdsOf, _▷_, numberOf, passes, finiteNumber, finiteVector, finiteInputs, positionComponents, positionRow, velocityComponents, transferTimeRow}
+use Rattle.vector.specs.Rows.{holdsOf, _▷_, Row, numberOf, passes, firstOf, finiteNumber, finiteVector, finiteInputs, positionComponents, positionRow, velocityComponents, transferTimeRow}
 
 -- ---- a row's tests, should they fail, all have its number
 abbrev pub Numbered : ℕ → Test → Type 0
@@ -42,6 +43,28 @@ pub last-number : (n : ℕ) (a : Test) → Numbered n a → numberOf a ≡ cond 
 unfolding numberOf passes
 last-number n Passed g = refl
 last-number n (Failed f) g = g
+
+-- ---- the table as a whole
+
+-- the tests of the rows, one after the other
+abbrev pub chainOf : List Row → Test
+chainOf [] = Passed
+chainOf (r ∷ rs) = r .test ▷ chainOf rs
+
+abbrev pub AllNumbered : List Row → Type 0
+AllNumbered [] = Prim.Unit
+AllNumbered (r ∷ rs) = Numbered (r .number) (r .test) × AllNumbered rs
+
+pub then-passed : (a : Test) → a ▷ Passed ≡ a
+unfolding _▷_
+then-passed Passed = refl
+then-passed (Failed f) = refl
+
+-- the number of the chain is that of the first row that applies
+pub chain-number : (rows : List Row) → AllNumbered rows → numberOf (chainOf rows) ≡ firstOf rows
+unfolding numberOf firstOf
+chain-number [] h = refl
+chain-number (r ∷ rs) h = then-number (r .number) (r .test) (chainOf rs) (h .0) ∙ ap (λ (n : ℕ). cond (passes (r .test)) n (r .number)) (chain-number rs (h .1))
 
 -- a chain passes if both tests do, and a test passes if it holds
 pub then-passes : (a b : Test) → passes (a ▷ b) ≡ (passes a && passes b)

@@ -1,0 +1,4 @@
+pub mod DayLaws
+pub mod Sizes
+pub mod Fronts
+pub mod Examples

@@ -1,0 +1,38 @@
+// Day and centiseconds of a time, cut down.
+ghost use Prim.Native.Nat.{_<_, _^_};
+ghost use mathlib.Core.Path.{_≡_};
+ghost use lib.IntN.{negsuc};
+ghost use Rattle.lines.specs.Days.{dayOf, csOf};
+use text::is_negative;
+use text::magnitude;
+
+pub struct Day {
+    pub day: i64,
+    pub cs: u64,
+}
+
+// The day that a time falls on, and its centiseconds from the start of that day.
+pub fn day_of(time: i64) -> Day
+    ensures { λ r. ⌜ (r .day ≡ dayOf time) × (r .cs ≡ csOf time) ⌝ }
+{
+    let m = magnitude(time);
+    let q = m / 8640000;
+    let c = m % 8640000;
+    if is_negative(time) {
+        let day = below(q);
+        return Day {
+            day,
+            cs: 8639999 - c,
+        };
+    }
+    let day = q as i64;
+    Day { day, cs: c }
+}
+
+// -1 - k
+fn below(k: u64) -> i64
+    requires { ⌜ k < 2 ^ 63 ⌝ }
+    ensures { λ r. ⌜ r ≡ negsuc k ⌝ }
+{
+    -1 - (k as i64)
+}

@@ -1,0 +1,10 @@
+// The listing's lines, each made at the front of a lent line buffer.
+mod day;
+mod line;
+
+pub use day::Day;
+pub use day::day_of;
+pub use line::Made;
+pub use line::heading;
+pub use line::record_line;
+pub use line::refused_line;

@@ -1,0 +1,83 @@
+// The lines themselves: the heading, a record's and a refusal's.
+ghost use mathlib.Core.Path.{_≡_};
+ghost use Rattle.session.specs.Kinds.{nameOf};
+ghost use Rattle.text.specs.Text.{IfFits, Put};
+ghost use Rattle.lines.specs.Lines.{InFront, headingText, recordText, refusedText, stampText, eventText};
+use crate::day::day_of;
+use session::Kind;
+use session::Record;
+
+// How long the line is, or the number of the refusal.
+pub enum Made {
+    Line(usize),
+    Refused(u32),
+}
+
+pub fn heading(buf: &mut [u8]) -> Made
+    ensures { λ r. ⌜ InFront headingText (now (buf .entry)) (now (buf .exit)) r ⌝ }
+{
+    if buf.len() < 40 {
+        return Made::Refused(15);
+    }
+    Made::Line(text::bytes(buf, 0, b"day cs vehicle kind\n"))
+}
+
+pub fn record_line(buf: &mut [u8], r: Record) -> Made
+    ensures { λ x. ⌜ InFront (recordText r) (now (buf .entry)) (now (buf .exit)) x ⌝ }
+{
+    if buf.len() < 40 {
+        return Made::Refused(15);
+    }
+    match r {
+        Record::State(x) => Made::Line(event(buf, x.time, x.vehicle, Kind::State)),
+        Record::Burn(x) => Made::Line(event(buf, x.time, x.vehicle, Kind::Burn)),
+        Record::Mark(x) => Made::Line(event(buf, x.time, x.vehicle, Kind::Mark)),
+    }
+}
+
+// The number is one byte: beside the twenty digits that a place can have, a line of 40 bytes holds no more than seven.
+pub fn refused_line(buf: &mut [u8], number: u8, at: u64) -> Made
+    ensures { λ r. ⌜ InFront (refusedText number at) (now (buf .entry)) (now (buf .exit)) r ⌝ }
+{
+    if buf.len() < 40 {
+        return Made::Refused(15);
+    }
+    let a = text::bytes(buf, 0, b"refused ");
+    let b = text::number(buf, a, number as u64);
+    let c = text::bytes(buf, b, b" at ");
+    let d = text::number(buf, c, at);
+    let e = text::byte(buf, d, b'\n');
+    Made::Line(e)
+}
+
+fn name(buf: &mut [u8], at: usize, k: Kind) -> usize
+    ensures { λ r. ⌜ Put (now (buf .entry)) at (nameOf k) (now (buf .exit)) r ⌝ }
+{
+    match k {
+        Kind::State => text::bytes(buf, at, b"state"),
+        Kind::Burn => text::bytes(buf, at, b"burn"),
+        Kind::Mark => text::bytes(buf, at, b"mark"),
+    }
+}
+
+fn stamp(buf: &mut [u8], time: i64) -> usize
+    ensures { λ r. ⌜ IfFits (now (buf .entry)) 0 (stampText time) (now (buf .exit)) r ⌝ }
+{
+    let d = day_of(time);
+    let day = d.day;
+    let cs = d.cs;
+    let a = text::signed(buf, 0, day);
+    let b = text::byte(buf, a, b' ');
+    let c = text::number(buf, b, cs);
+    text::byte(buf, c, b' ')
+}
+
+fn event(buf: &mut [u8], time: i64, vehicle: u8, k: Kind) -> usize
+    ensures { λ r. ⌜ IfFits (now (buf .entry)) 0 (eventText time vehicle k) (now (buf .exit)) r ⌝ }
+{
+    let a = stamp(buf, time);
+    let b = text::number(buf, a, vehicle as u64);
+    let c = text::byte(buf, b, b' ');
+    let d = name(buf, c, k);
+    text::byte(buf, d, b'\n')
+}

@@ -1,0 +1,4 @@
+// Lists a session.
+fn main() {
+    show::listing();
+}

@@ -1,0 +1,5 @@
+pub mod Bytes
+pub mod Kinds
+pub mod Layout
+pub mod Decode
+pub mod Read

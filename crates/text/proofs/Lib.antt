@@ -1,0 +1,4 @@
+pub mod Stand
+pub mod Puts
+pub mod Decimals
+pub mod Signs

@@ -1,0 +1,41 @@
+-- Text put into a buffer at a place, and numbers as text. Assumes nothing: these are definitions.
+use Prim.Native.Nat.{ℕ, zero, suc, _+_, _-_, _/_, _%_, _^_, _≤_, _<_}
+use mathlib.Core.Path.{_≡_}
+use mathlib.Core.List.{List, [], _∷_, _++_}
+use mathlib.Core.Bool.{cond}
+use lib.ListN.{length, take, drop}
+use lib.Dec.{ltb}
+use lib.IntN.{ℤ, pos, negsuc}
+
+-- the place at which no text fits
+abbrev pub nowhere : ℕ
+nowhere = 2 ^ 64 - 1
+
+-- x stands in d from `at` on and all else is as it was: that is e, and r is the place behind x
+pub record Stands (d : List ℕ) (at : ℕ) (x : List ℕ) (e : List ℕ) (r : ℕ) : Type 0 where
+  pub next : r ≡ at + length x
+  pub within : r ≤ length d
+  pub whole : e ≡ take at d ++ (x ++ drop r d)
+
+-- the same, if it fits
+abbrev pub IfFits : List ℕ → ℕ → List ℕ → List ℕ → ℕ → Type 0
+IfFits d at x e r = at + length x ≤ length d → Stands d at x e r
+
+-- x is put into d at a place, which makes e, and r is answered: x stands there if it fits, else d stays as it was
+pub record Put (d : List ℕ) (at : ℕ) (x : List ℕ) (e : List ℕ) (r : ℕ) : Type 0 where
+  pub fits : IfFits d at x e r
+  pub lacks : length d < at + length x → (e ≡ d) × (r ≡ nowhere)
+
+-- the decimal digits of n, at most the last `left` of them
+unfoldable pub digits : ℕ → ℕ → List ℕ
+digits zero n = []
+digits (suc k) n = cond (ltb n 10) ((48 + n) ∷ []) (digits k (n / 10) ++ ((48 + n % 10) ∷ []))
+
+-- n in decimal: twenty digits hold every 64-bit number
+abbrev pub decimal : ℕ → List ℕ
+decimal n = digits 20 n
+
+-- z in decimal, with a minus in front where it is negative
+abbrev pub signedText : ℤ → List ℕ
+signedText (pos n) = decimal n
+signedText (negsuc n) = 45 ∷ decimal (n + 1)

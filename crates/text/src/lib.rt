@@ -1,0 +1,127 @@
+// Text put into a lent buffer at a place: the whole of it where it fits, and no byte of it where it does not.
+// Each routine answers the place behind the text, or NOWHERE, where no later text fits either.
+mod sign;
+
+pub use sign::is_negative;
+pub use sign::magnitude;
+ghost use Prim.Native.Nat.{_+_, _≤_, _<_};
+ghost use mathlib.Core.Path.{_≡_};
+ghost use mathlib.Core.List.{[], _∷_};
+ghost use lib.ListN.{length};
+ghost use lib.Dec.{leb};
+ghost use Rattle.text.specs.Text.{Stands, Put, digits, decimal, signedText};
+
+pub const NOWHERE: usize = 0xffff_ffff_ffff_ffff;
+
+pub fn byte(buf: &mut [u8], at: usize, b: u8) -> usize
+    ensures { λ r. ⌜ Put (now (buf .entry)) at (b ∷ []) (now (buf .exit)) r ⌝ }
+{
+    if at < buf.len() {
+        buf[at] = b;
+        return at + 1;
+    }
+    NOWHERE
+}
+
+pub fn bytes(buf: &mut [u8], at: usize, x: &[u8]) -> usize
+    ensures { λ r. ⌜ Put (now (buf .entry)) at (now (x .entry)) (now (buf .exit)) r ⌝ }
+{
+    if has_room(buf.len(), at, x.len()) {
+        return copy(buf, at, x);
+    }
+    NOWHERE
+}
+
+// n in decimal.
+pub fn number(buf: &mut [u8], at: usize, n: u64) -> usize
+    ensures { λ r. ⌜ Put (now (buf .entry)) at (decimal n) (now (buf .exit)) r ⌝ }
+{
+    if has_room(buf.len(), at, count_digits(n, 20)) {
+        return put_digits(buf, at, n, 20);
+    }
+    NOWHERE
+}
+
+// z in decimal, with a minus in front where it is negative.
+pub fn signed(buf: &mut [u8], at: usize, z: i64) -> usize
+    ensures { λ r. ⌜ Put (now (buf .entry)) at (signedText z) (now (buf .exit)) r ⌝ }
+{
+    let n = magnitude(z);
+    if is_negative(z) {
+        return minus(buf, at, n + 1);
+    }
+    number(buf, at, n)
+}
+
+// A minus, and n in decimal.
+fn minus(buf: &mut [u8], at: usize, n: u64) -> usize
+    ensures { λ r. ⌜ Put (now (buf .entry)) at (45 ∷ decimal n) (now (buf .exit)) r ⌝ }
+{
+    if has_room(buf.len(), at, count_digits(n, 20) + 1) {
+        let a = put_byte(buf, at, b'-');
+        return put_digits(buf, a, n, 20);
+    }
+    NOWHERE
+}
+
+// Whether k bytes from `at` on lie within a buffer of this size.
+fn has_room(size: usize, at: usize, k: usize) -> bool
+    ensures { λ r. ⌜ r ≡ leb (at + k) size ⌝ }
+{
+    if at <= size { k <= size - at } else { false }
+}
+
+fn put_byte(buf: &mut [u8], at: usize, b: u8) -> usize
+    requires { ⌜ at < length (now buf) ⌝ }
+    ensures { λ r. ⌜ Stands (now (buf .entry)) at (b ∷ []) (now (buf .exit)) r ⌝ }
+{
+    buf[at] = b;
+    at + 1
+}
+
+fn copy(buf: &mut [u8], at: usize, x: &[u8]) -> usize
+    requires { ⌜ at + length (now x) ≤ length (now buf) ⌝ }
+    ensures { λ r. ⌜ Stands (now (buf .entry)) at (now (x .entry)) (now (buf .exit)) r ⌝ }
+{
+    let mut i = 0;
+    while i < x.len() {
+        buf[at + i] = x[i];
+        i += 1;
+    }
+    at + i
+}
+
+// How many decimal digits n has, of which `left` are counted at most.
+fn count_digits(n: u64, left: usize) -> usize
+    ensures { λ r. ⌜ r ≡ length (digits left n) ⌝ }
+{
+    if left == 0 {
+        return 0;
+    }
+    if n < 10 {
+        return 1;
+    }
+    count_digits(n / 10, left - 1) + 1
+}
+
+// The decimal digits of n, of which `left` are put at most.
+fn put_digits(buf: &mut [u8], at: usize, n: u64, left: usize) -> usize
+    requires { ⌜ at + length (digits left n) ≤ length (now buf) ⌝ }
+    ensures { λ r. ⌜ Stands (now (buf .entry)) at (digits left n) (now (buf .exit)) r ⌝ }
+{
+    if left == 0 {
+        return at;
+    }
+    if n < 10 {
+        return put_byte(buf, at, digit(n));
+    }
+    let e = put_digits(buf, at, n / 10, left - 1);
+    put_byte(buf, e, digit(n % 10))
+}
+
+fn digit(d: u64) -> u8
+    requires { ⌜ d < 10 ⌝ }
+    ensures { λ r. ⌜ r ≡ 48 + d ⌝ }
+{
+    48 + d as u8
+}

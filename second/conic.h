@@ -1,0 +1,28 @@
+/* 01, 'Kepler', 'Lambert and Time-Theta', 'Apsides'. In every answer `refused` is 01's number, or 0. */
+#ifndef CONIC_H
+#define CONIC_H
+
+#include "series.h"
+#include "vector.h"
+
+#include <stdint.h>
+
+enum grade { CLOSED, FAIR, ROUGH };
+
+typedef struct {
+    int refused;
+    int64_t n; /* the lower neighbour */
+    uint64_t count;
+    enum grade grade;
+    double time, err;
+    vector r, v; /* Lambert answers v alone */
+} solution;
+
+typedef struct { int refused; bool closed; double near, far; } apses;
+
+solution kepler(double mu, state from, double time);
+solution lambert(double mu, vector from, vector to, double time, bool long_way);
+number time_theta(double mu, state from, double sine, double cosine);
+apses apsides(double mu, state at);
+
+#endif

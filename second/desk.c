@@ -1,0 +1,329 @@
+#include "desk.h"
+
+#include "conic.h"
+#include "real.h"
+
+#include <inttypes.h>
+#include <stdarg.h>
+#include <stdio.h>
+
+const form forms[ROUTINES] = {
+    [ROOT] = { "root", "n" },
+    [C] = { "c", "n" },
+    [S] = { "s", "n" },
+    [TRIAL] = { "trial", "niijjk" },
+    [KEPLER] = { "kepler", "nnnnnnnn" },
+    [LAMBERT] = { "lambert", "nnnnnnnnw" },
+    [THETA] = { "theta", "nnnnnnnnn" },
+    [APSIDES] = { "apsides", "nnnnnnn" },
+};
+
+/* Reading. */
+
+typedef struct { const char *at; size_t length; } span;
+
+static bool is_blank(char c)
+{
+    return c == ' ' || c == '\t' || c == '\r';
+}
+
+/* Takes the next word off the front of a line; an empty one at its end. */
+static span take_word(span *line)
+{
+    while (line->length > 0 && is_blank(*line->at))
+        line->at++, line->length--;
+    span w = { line->at, 0 };
+    while (line->length > 0 && !is_blank(*line->at))
+        line->at++, line->length--, w.length++;
+    return w;
+}
+
+static bool span_is(span w, const char *text)
+{
+    return w.length == strlen(text) && memcmp(w.at, text, w.length) == 0;
+}
+
+static bool span_begins(span w, const char *text)
+{
+    return w.length >= strlen(text) && memcmp(w.at, text, strlen(text)) == 0;
+}
+
+static span behind(span w, size_t bytes)
+{
+    return (span){ w.at + bytes, w.length - bytes };
+}
+
+static bool is_digit(char c)
+{
+    return '0' <= c && c <= '9';
+}
+
+static int hex_digit(char c)
+{
+    if (is_digit(c))
+        return c - '0';
+    if ('a' <= c && c <= 'f')
+        return c - 'a' + 10;
+    return 'A' <= c && c <= 'F' ? c - 'A' + 10 : -1;
+}
+
+static bool read_bits(span w, double *out)
+{
+    if (w.length != 16)
+        return false;
+    uint64_t bits = 0;
+    for (size_t k = 0; k < w.length; k++) {
+        if (hex_digit(w.at[k]) < 0)
+            return false;
+        bits = bits << 4 | (uint64_t)hex_digit(w.at[k]);
+    }
+    *out = of_bits(bits);
+    return true;
+}
+
+/* At most 15 digits and the power of ten are exact in f64, so the one division gives the nearest. */
+static bool read_decimal(span w, double *out)
+{
+    bool negative = span_begins(w, "-"), point = false;
+    if (negative || span_begins(w, "+"))
+        w = behind(w, 1);
+    uint64_t digits = 0;
+    int count = 0;
+    double power = 1;
+    for (size_t k = 0; k < w.length; k++) {
+        if (w.at[k] == '.' && !point && count > 0) {
+            point = true;
+            continue;
+        }
+        if (!is_digit(w.at[k]) || ++count > 15)
+            return false;
+        digits = digits * 10 + (uint64_t)(w.at[k] - '0');
+        power = point ? power * 10 : 1;
+    }
+    if (count == 0 || !is_digit(w.at[w.length - 1]))
+        return false;
+    double size = (double)digits / power;
+    *out = negative ? -size : size;
+    return true;
+}
+
+static bool read_number(span w, double *out)
+{
+    return span_begins(w, "x") ? read_bits(behind(w, 1), out) : read_decimal(w, out);
+}
+
+static bool read_digits(span w, uint64_t *out)
+{
+    *out = 0;
+    for (size_t k = 0; k < w.length; k++) {
+        uint64_t digit = (uint64_t)(w.at[k] - '0');
+        if (!is_digit(w.at[k]) || *out > (UINT64_MAX - digit) / 10)
+            return false;
+        *out = *out * 10 + digit;
+    }
+    return w.length > 0;
+}
+
+static bool read_whole(span w, int64_t *out)
+{
+    bool negative = span_begins(w, "-");
+    uint64_t size;
+    if (!read_digits(behind(w, negative), &size) || size > (uint64_t)INT64_MAX + negative)
+        return false;
+    *out = !negative ? (int64_t)size : size == 0 ? 0 : -1 - (int64_t)(size - 1);
+    return true;
+}
+
+static bool read_count(span w, uint64_t *out)
+{
+    bool negative = span_begins(w, "-");
+    return read_digits(behind(w, negative), out) && !(negative && *out > 0);
+}
+
+static bool read_judgement(span w, judgement *out)
+{
+    out->time = 0;
+    out->as = span_is(w, "under") ? UNDER : span_is(w, "over") ? OVER : span_begins(w, "low:") ? LOW : HIGH;
+    if (!carries_time(*out))
+        return true;
+    size_t head = out->as == LOW ? 4 : 5;
+    return (out->as == LOW || span_begins(w, "high:")) && read_number(behind(w, head), &out->time);
+}
+
+static bool read_word(char letter, span w, word *out)
+{
+    switch (letter) {
+    case 'n':
+        return read_number(w, &out->number);
+    case 'i':
+        return read_whole(w, &out->whole);
+    case 'k':
+        return read_count(w, &out->count);
+    case 'j':
+        return read_judgement(w, &out->judgement);
+    default:
+        out->long_way = span_is(w, "long");
+        return out->long_way || span_is(w, "short");
+    }
+}
+
+int read_request(const char *line, size_t length, request *out)
+{
+    span rest = { line, length };
+    if (length > LINE_MAX)
+        return 0;
+    if (span_begins(rest, "#"))
+        return NOTHING;
+    span w = take_word(&rest);
+    if (w.length == 0)
+        return NOTHING;
+
+    int routine = 0, number = 1;
+    while (routine < ROUTINES && !span_is(w, forms[routine].name))
+        routine++;
+    if (routine == ROUTINES)
+        return number;
+    out->routine = (enum routine)routine;
+    for (const char *letter = forms[routine].words; *letter; letter++, number++) {
+        w = take_word(&rest);
+        if (w.length == 0 || !read_word(*letter, w, &out->words[number - 1]))
+            return number + 1;
+    }
+    return take_word(&rest).length == 0 ? READ : number + 1;
+}
+
+/* Answering. */
+
+typedef struct { char *at; } pen;
+
+static void say(pen *p, const char *text, ...)
+{
+    va_list given;
+    va_start(given, text);
+    p->at += vsprintf(p->at, text, given);
+    va_end(given);
+}
+
+/* Six places, cut towards zero; x is its significand over a power of two. */
+static void say_decimal(pen *p, double x)
+{
+    if (!(fabs(x) < 0x1p43)) {
+        say(p, "large");
+        return;
+    }
+    uint64_t bits = bits_of(x), significand = bits & 0xFFFFFFFFFFFFF, exponent = bits >> 52 & 0x7FF;
+    if (exponent == 0)
+        exponent = 1;
+    else
+        significand |= UINT64_C(1) << 52;
+    uint64_t halvings = 1075 - exponent;
+    uint64_t millionths = halvings > 100 ? 0 : (uint64_t)((unsigned __int128)significand * 1000000 >> halvings);
+    say(p, "%s%" PRIu64 ".%06" PRIu64, signbit(x) ? "-" : "", millionths / 1000000, millionths % 1000000);
+}
+
+/* The shape with a decimal for each D, then the bits of the same numbers. */
+static void say_numbers(pen *p, const char *shape, const double numbers[])
+{
+    int count = 0;
+    for (; *shape; shape++) {
+        if (*shape == 'D')
+            say_decimal(p, numbers[count++]);
+        else
+            say(p, "%c", *shape);
+    }
+    say(p, " bits");
+    for (int k = 0; k < count; k++)
+        say(p, " x%016" PRIX64, bits_of(numbers[k]));
+}
+
+static void say_number(pen *p, const char *shape, number a)
+{
+    if (a.refused)
+        say(p, "refused %d", a.refused);
+    else
+        say_numbers(p, shape, &a.value);
+}
+
+static void say_trial(pen *p, const word *w)
+{
+    point a = trial(w[0].number, w[1].whole, w[2].whole, w[3].judgement, w[4].judgement, w[5].count);
+    if (a.refused)
+        say(p, "refused %d", a.refused);
+    else if (a.none)
+        say(p, "none");
+    else
+        say(p, "point %" PRId64, a.n);
+}
+
+static void say_solution(pen *p, bool orbit, solution a)
+{
+    static const char *const grades[] = { [CLOSED] = "closed", [FAIR] = "fair", [ROUGH] = "rough" };
+    if (a.refused) {
+        say(p, "refused %d", a.refused);
+        return;
+    }
+    say(p, "done n %" PRId64 " count %" PRIu64 " grade %s ", a.n, a.count, grades[a.grade]);
+    if (orbit)
+        say_numbers(p, "time D err D r D D D v D D D",
+                    (double[]){ a.time, a.err, a.r.x, a.r.y, a.r.z, a.v.x, a.v.y, a.v.z });
+    else
+        say_numbers(p, "time D err D v D D D", (double[]){ a.time, a.err, a.v.x, a.v.y, a.v.z });
+}
+
+static void say_apses(pen *p, apses a)
+{
+    if (a.refused)
+        say(p, "refused %d", a.refused);
+    else
+        say_numbers(p, a.closed ? "closed near D far D" : "open near D", (double[]){ a.near, a.far });
+}
+
+static vector vector_at(const word *w)
+{
+    return (vector){ w[0].number, w[1].number, w[2].number };
+}
+
+static state state_at(const word *w)
+{
+    return (state){ vector_at(w), vector_at(w + 3) };
+}
+
+void answer_request(const request *asked, char out[ANSWER_MAX])
+{
+    const word *w = asked->words;
+    pen p = { out };
+    switch (asked->routine) {
+    case ROOT:
+        say_number(&p, "value D", root(w[0].number));
+        break;
+    case C:
+        say_number(&p, "value D", series_c(w[0].number));
+        break;
+    case S:
+        say_number(&p, "value D", series_s(w[0].number));
+        break;
+    case TRIAL:
+        say_trial(&p, w);
+        break;
+    case KEPLER:
+        say_solution(&p, true, kepler(w[0].number, state_at(w + 1), w[7].number));
+        break;
+    case LAMBERT:
+        say_solution(&p, false,
+                     lambert(w[0].number, vector_at(w + 1), vector_at(w + 4), w[7].number, w[8].long_way));
+        break;
+    case THETA:
+        say_number(&p, "time D", time_theta(w[0].number, state_at(w + 1), w[7].number, w[8].number));
+        break;
+    default:
+        say_apses(&p, apsides(w[0].number, state_at(w + 1)));
+    }
+}
+
+void answer_line(int unread, const request *asked, char out[ANSWER_MAX])
+{
+    if (unread == READ)
+        answer_request(asked, out);
+    else
+        sprintf(out, "unread %d", unread);
+}

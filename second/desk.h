@@ -1,0 +1,38 @@
+/* The desk's line language: a line is read into a request, a request is answered by a line. */
+#ifndef DESK_H
+#define DESK_H
+
+#include "iterator.h"
+
+#include <stddef.h>
+
+enum routine { ROOT, C, S, TRIAL, KEPLER, LAMBERT, THETA, APSIDES, ROUTINES };
+
+/* A routine's name and a letter for each word behind it:
+ * n a number, i a whole number (i64), k a trial's number (u64), j a judgement, w short or long. */
+typedef struct { const char *name, *words; } form;
+
+extern const form forms[ROUTINES];
+
+enum { WORDS_MAX = 9, LINE_MAX = 1000, ANSWER_MAX = 800 };
+
+typedef union {
+    double number;
+    int64_t whole;
+    uint64_t count;
+    judgement judgement;
+    bool long_way;
+} word;
+
+typedef struct { enum routine routine; word words[WORDS_MAX]; } request;
+
+/* READ, or NOTHING for a line without an answer, or the number of the first word that cannot be read. */
+enum { READ = -1, NOTHING = -2 };
+
+int read_request(const char *line, size_t length, request *out);
+
+/* Both without a newline. */
+void answer_request(const request *asked, char out[ANSWER_MAX]);
+void answer_line(int unread, const request *asked, char out[ANSWER_MAX]);
+
+#endif

@@ -1,0 +1,148 @@
+/* Spelling a request in one of the many ways, and spoiling it. */
+#include "lines.h"
+
+#include "dice.h"
+#include "real.h"
+
+#include <inttypes.h>
+#include <stdio.h>
+
+typedef struct { char words[WORDS_MAX + 3][72]; int count; } spelling;
+
+static void spell_number(char *out, double x, bool decimal)
+{
+    if (!decimal || !(fabs(x) < 1e14)) {
+        sprintf(out, one_in(8) ? "x%016" PRIx64 : "x%016" PRIX64, bits_of(x));
+        return;
+    }
+    int whole = snprintf(NULL, 0, "%" PRIu64, (uint64_t)fabs(x));
+    int places = (int)below((uint64_t)(16 - whole));
+    sprintf(out, one_in(8) ? "%+.*f" : "%.*f", places, x);
+}
+
+static void spell_judgement(char *out, judgement j, bool decimal)
+{
+    static const char *const heads[] = { [UNDER] = "under", [LOW] = "low:", [HIGH] = "high:", [OVER] = "over" };
+    out += sprintf(out, "%s", heads[j.as]);
+    if (carries_time(j))
+        spell_number(out, j.time, decimal);
+}
+
+static void spell_word(char *out, char letter, word w, bool decimal)
+{
+    switch (letter) {
+    case 'n':
+        spell_number(out, w.number, decimal);
+        break;
+    case 'i':
+        sprintf(out, one_in(16) ? "%020" PRId64 : "%" PRId64, w.whole);
+        break;
+    case 'k':
+        sprintf(out, "%" PRIu64, w.count);
+        break;
+    case 'j':
+        spell_judgement(out, w.judgement, decimal);
+        break;
+    default:
+        strcpy(out, w.long_way ? "long" : "short");
+    }
+}
+
+static spelling spelled(const request *q, bool decimal)
+{
+    spelling s = { .count = 1 };
+    strcpy(s.words[0], forms[q->routine].name);
+    for (const char *letter = forms[q->routine].words; *letter; letter++, s.count++)
+        spell_word(s.words[s.count], *letter, q->words[s.count - 1], decimal);
+    return s;
+}
+
+static line joined(const spelling *s)
+{
+    static const char *const blanks[] = { " ", "  ", "\t", " \t ", "\r", "     " };
+    bool wide = one_in(16);
+    line l = { .length = 0 };
+    if (wide && one_in(2))
+        l.bytes[l.length++] = ' ';
+    for (int k = 0; k < s->count; k++) {
+        const char *blank = k == 0 ? "" : wide ? blanks[below(6)] : " ";
+        l.length += (size_t)sprintf(l.bytes + l.length, "%s%s", blank, s->words[k]);
+    }
+    if (wide && one_in(2))
+        l.bytes[l.length++] = '\r';
+    return l;
+}
+
+static void pad(line *l, size_t length)
+{
+    char with = one_in(2) ? ' ' : '7';
+    while (l->length < length)
+        l->bytes[l->length++] = with;
+}
+
+static const char *bad_word(void)
+{
+    static const char *const bad[] = {
+        "x", "x123", "x3FF000000000000", "x3FF00000000000000", "x3FF000000000000G", "X3FF0000000000000",
+        "0x3FF0000000000000", "-x3FF0000000000000", "-", "+", ".", "1.", ".5", "-.5", "1..2", "1.2.3", "+-1",
+        "--1", "1e5", "1,5", "1234567890123456", "1.234567890123456", "0000000000000001", "000000000000001",
+        "nan", "inf", "low:", "low", "low:-", "high:x", "high:1.", "LOW:1", "under:1", "over:", "under", "over",
+        "high:-0", "low:+0.5", "18446744073709551615", "18446744073709551616", "9223372036854775807",
+        "9223372036854775808", "-9223372036854775808", "-9223372036854775809", "+5", "-0", "5-", "\xCE\xBE",
+        "short", "long", "Short", "shorter", "#",
+    };
+    return bad[below(sizeof bad / sizeof *bad)];
+}
+
+static void spoil_words(spelling *s)
+{
+    int k = (int)below((uint64_t)s->count);
+    switch (below(5)) {
+    case 0:
+        s->count = 1 + k; /* a missing word, or none missing */
+        break;
+    case 1:
+        strcpy(s->words[s->count++], bad_word());
+        break;
+    case 2:
+        strcpy(s->words[0], one_in(2) ? bad_word() : "Root");
+        break;
+    default:
+        strcpy(s->words[k], bad_word());
+    }
+}
+
+line spelled_line(const request *q, bool decimal)
+{
+    spelling s = spelled(q, decimal);
+    return joined(&s);
+}
+
+line spoilt_line(const request *q, bool decimal)
+{
+    spelling s = spelled(q, decimal);
+    if (!one_in(4))
+        spoil_words(&s);
+    line l = joined(&s);
+    size_t place = below(l.length);
+    switch (below(16)) {
+    case 0:
+        pad(&l, LINE_MAX - 1 + below(4));
+        break;
+    case 1:
+        l.bytes[place] = (char)below(256);
+        break;
+    case 2:
+        l.bytes[0] = '#';
+        pad(&l, one_in(4) ? LINE_MAX - 1 + below(4) : 0);
+        break;
+    case 3:
+        memset(l.bytes, ' ', sizeof l.bytes);
+        l.length = one_in(4) ? LINE_MAX - 1 + below(4) : below(3);
+        break;
+    }
+    for (size_t k = 0; k < l.length; k++)
+        if (l.bytes[k] == '\n')
+            l.bytes[k] = '\v';
+    return l;
+}

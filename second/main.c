@@ -1,0 +1,91 @@
+/* The second program: document 01 once more, in C, as a witness for the first. See README.md. */
+#include "desk.h"
+#include "programs.h"
+#include "session.h"
+
+#include <inttypes.h>
+#include <stdio.h>
+#include <stdlib.h>
+#include <string.h>
+
+/* Keeps as much of a line as counts; answers its whole length, or -1 where no line is left. */
+static long take_line(char line[LINE_MAX])
+{
+    long length = 0;
+    int c;
+    while ((c = getchar()) != EOF && c != '\n') {
+        if (length < LINE_MAX)
+            line[length] = (char)c;
+        length++;
+    }
+    return c == EOF && length == 0 ? -1 : length;
+}
+
+static int desk(void)
+{
+    char line[LINE_MAX], answer[ANSWER_MAX];
+    for (long length; (length = take_line(line)) >= 0;) {
+        request asked;
+        int unread = read_request(line, (size_t)length, &asked);
+        if (unread == NOTHING)
+            continue;
+        answer_line(unread, &asked, answer);
+        puts(answer);
+    }
+    return 0;
+}
+
+static int list(const char *name)
+{
+    static uint8_t session[SESSION_MAX + 1];
+    static char text[LISTING_MAX];
+    FILE *file = name ? fopen(name, "rb") : stdin;
+    size_t size = file ? fread(session, 1, sizeof session, file) : 0;
+    if (!file || ferror(file)) {
+        perror(name ? name : "standard input");
+        return 2;
+    }
+    listed made = listing(session, size, text);
+    fwrite(text, 1, made.length, stdout);
+    return made.refused;
+}
+
+static int run_bench(const char *name, uint64_t count)
+{
+    uint64_t checksum;
+    if (!bench(name, count, &checksum)) {
+        fprintf(stderr, "no such bench: %s\n", name);
+        return 2;
+    }
+    printf("%016" PRIX64 "\n", checksum);
+    return 0;
+}
+
+static int help(void)
+{
+    fputs("second desk                      a line in, a line out\n"
+          "second list [FILE]               the listing of a session\n"
+          "second requests SEED COUNT       lines for the desk\n"
+          "second sessions SEED COUNT DIR   sessions, whole and damaged\n"
+          "second bench NAME [COUNT]        root, advance, lambert, theta or list: a checksum\n",
+          stderr);
+    return 2;
+}
+
+int main(int words, char **word)
+{
+    const char *what = words > 1 ? word[1] : "";
+    uint64_t a = words > 2 ? strtoull(word[2], NULL, 10) : 0;
+    uint64_t b = words > 3 ? strtoull(word[3], NULL, 10) : 0;
+    if (strcmp(what, "desk") == 0 && words == 2)
+        return desk();
+    if (strcmp(what, "list") == 0 && words <= 3)
+        return list(word[2]);
+    if (strcmp(what, "requests") == 0 && words == 4)
+        return make_requests(a, b), 0;
+    if (strcmp(what, "sessions") == 0 && words == 5)
+        return make_sessions(a, b, word[4]);
+    if (strcmp(what, "bench") == 0 && (words == 3 || words == 4))
+        return run_bench(word[2], b);
+    return help();
+}
