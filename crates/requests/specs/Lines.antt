@@ -1,6 +1,6 @@
 -- A line of the desk as a request. Assumes nothing: these are definitions.
 use Prim.Native.Nat.{ℕ, _+_}
-use mathlib.Core.Bool.{cond}
+use mathlib.Core.Bool.{Bool, cond}
 use mathlib.Core.List.{List, [], _∷_}
 use lib.ListN.{length, getD}
 use lib.Dec.{eqb, ltb}
@@ -97,9 +97,13 @@ unfoldable pub askedOf : Named → List ℕ → Request
 askedOf (Known r) line = readable (firstUnread (wants r) 1 line) (madeOf r line)
 askedOf Unknown line = Unread 1
 
--- no byte, or a comment: nothing is asked; over 1,000 bytes: no word is read
+-- it starts with `#`
+abbrev pub isComment : List ℕ → Bool
+isComment line = eqb (getD line 0 0) 35
+
+-- over 1,000 bytes: no word is read; a comment, or no word: nothing is asked
 unfoldable pub requestOf : List ℕ → Request
 requestOf line =
-    cond (eqb (length line) 0) Nothing
-    (cond (eqb (getD line 0 0) 35) Nothing
-    (cond (ltb 1000 (length line)) (Unread 0) (askedOf (routineOf (wordAt 0 line)) line)))
+    cond (ltb 1000 (length line)) (Unread 0)
+    (cond (isComment line) Nothing
+    (cond (eqb (length (wordAt 0 line)) 0) Nothing (askedOf (routineOf (wordAt 0 line)) line)))

@@ -2,7 +2,7 @@
 ghost use Prim.Native.Nat.{_<_};
 ghost use mathlib.Core.Path.{_≡_};
 ghost use Rattle.requests.specs.Lines.{numberAt, signedAt, wholeAt, judgementAt, wayAt, vectorAt, stateAt};
-ghost use Rattle.requests.specs.Lines.{madeOf, askedOf, requestOf};
+ghost use Rattle.requests.specs.Lines.{madeOf, askedOf, isComment, requestOf};
 use crate::wants::Named;
 use crate::wants::Routine;
 use crate::wants::find_routine;
@@ -16,8 +16,8 @@ use words::Number;
 use words::Signed;
 use words::Whole;
 
-// What a line asks. An empty line and a comment ask nothing; a line that cannot be read tells its first such word, or 0
-// for a line of over 1,000 bytes.
+// What a line asks. A line with no word and a comment ask nothing; a line that cannot be read tells its first such
+// word, or 0 for a line of over 1,000 bytes.
 pub enum Request {
     Nothing,
     Root(f64),
@@ -221,18 +221,28 @@ fn asked(n: Named, line: &[u8]) -> Request
     }
 }
 
+fn is_comment(line: &[u8]) -> bool
+    ensures { λ r. ⌜ r ≡ isComment (now (line .entry)) ⌝ }
+{
+    if line.len() == 0 {
+        return false;
+    }
+    line[0] == b'#'
+}
+
 // What a line asks; the line is without its newline.
 pub fn read(line: &[u8]) -> Request
     ensures { λ x. ⌜ x ≡ requestOf (now (line .entry)) ⌝ }
 {
-    if line.len() == 0 {
-        return Request::Nothing;
-    }
-    if line[0] == b'#' {
-        return Request::Nothing;
-    }
     if line.len() > 1000 {
         return Request::Unread(0);
     }
-    asked(find_routine(words::word(line, 0)), line)
+    if is_comment(line) {
+        return Request::Nothing;
+    }
+    let name = words::word(line, 0);
+    if name.len() == 0 {
+        return Request::Nothing;
+    }
+    asked(find_routine(name), line)
 }

@@ -1,5 +1,6 @@
 -- `read`: the definition's tests, in their order.
-use mathlib.Core.Path.{refl, ap, _∙_}
+use mathlib.Core.Path.{refl, sym, ap, _∙_}
+use lib.ListN.{length}
 use denote.Ref.{now}
 use borrow.Author.Tests.{eq-eqb, ne-eqb, lt-ltb, le-ltb}
 use borrow.Author.Needs.{needs}
@@ -11,21 +12,21 @@ use Rattle.requests.proofs.line.read.Tie as tie
 
 returns : tie.Need-returns
 unfolding requestOf
-returns c = rw (eq-eqb _ _ (c .if1 .taken)) refl
+returns c = rw (lt-ltb _ _ (c .if1 .taken)) refl
 
-shared-slice-read-if2 : tie.Need-shared-slice-read-if2
-shared-slice-read-if2 c = search needs
+is-comment-requires : tie.Need-is-comment-requires
+is-comment-requires c κs = search needs
 
 returns-2 : tie.Need-returns-2
 unfolding requestOf
-returns-2 c = rw (ne-eqb _ _ (c .before .before .if1 .left), eq-eqb _ _ (c .if2 .taken)) refl
-
-returns-3 : tie.Need-returns-3
-unfolding requestOf
-returns-3 c = rw (ne-eqb _ _ (c .before .before .before .if1 .left), ne-eqb _ _ (c .before .if2 .left), lt-ltb _ _ (c .if3 .taken)) refl
+returns-2 c = rw (le-ltb _ _ (c .before .before .if1 .left), sym (c .before .is-comment .ensures) ∙ c .if2 .taken) refl
 
 word-requires : tie.Need-word-requires
 word-requires c κs = search needs
+
+returns-3 : tie.Need-returns-3
+unfolding requestOf
+returns-3 c = rw (le-ltb _ _ (c .before .before .before .before .if1 .left), sym (c .before .before .before .is-comment .ensures) ∙ c .before .before .if2 .left, eq-eqb _ _ (ap length (sym (c .before .word .ensures)) ∙ c .if3 .taken)) refl
 
 find-routine-requires : tie.Need-find-routine-requires
 find-routine-requires c κs = search needs
@@ -36,19 +37,19 @@ asked-requires c κs = search needs
 returns-4 : tie.Need-returns-4
 unfolding requestOf
 returns-4 c =
-    let n = c .before .find-routine .ensures ∙ ap routineOf (c .before .before .word .ensures) in
+    let n = c .before .find-routine .ensures ∙ ap routineOf (c .before .before .before .word .ensures) in
     c .asked .ensures ∙ ap (λ (r : Named). askedOf r (now (c .before .before .before .before .before .before .before .before .args .line))) n
-    ∙ rw (ne-eqb _ _ (c .before .before .before .before .before .before .if1 .left), ne-eqb _ _ (c .before .before .before .before .if2 .left), le-ltb _ _ (c .before .before .before .if3 .left)) refl
+    ∙ rw (le-ltb _ _ (c .before .before .before .before .before .before .if1 .left), sym (c .before .before .before .before .before .is-comment .ensures) ∙ c .before .before .before .before .if2 .left, ne-eqb _ _ (λ h. c .before .before .if3 .left (ap length (c .before .before .before .word .ensures) ∙ h))) refl
 
 pub read-spec : {M : Type 1} → statement M
 read-spec =
     tie.close
     (tie.spec
     returns
-    shared-slice-read-if2
+    is-comment-requires
     returns-2
-    returns-3
     word-requires
+    returns-3
     find-routine-requires
     asked-requires
     returns-4)
