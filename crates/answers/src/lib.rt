@@ -1,12 +1,13 @@
 // The desk's answers as lines.
+mod done;
 mod lines;
 mod rows;
+mod told;
 
-pub use lines::closed;
-pub use lines::none;
-pub use lines::open;
-pub use lines::point;
-pub use lines::refused;
-pub use lines::time;
 pub use lines::unread;
-pub use lines::value;
+pub use told::tell_advance;
+pub use told::tell_apsides;
+pub use told::tell_number;
+pub use told::tell_time;
+pub use told::tell_transfer;
+pub use told::tell_trial;

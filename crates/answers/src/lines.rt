@@ -39,7 +39,7 @@ pub fn time(buf: &mut [u8], x: f64) -> usize
 }
 
 // The apsides of an open orbit.
-pub fn open(buf: &mut [u8], near: f64) -> usize
+pub fn open_orbit(buf: &mut [u8], near: f64) -> usize
     ensures { λ r. ⌜ Line (openText near) (now (buf .entry)) (now (buf .exit)) r ⌝ }
 {
     if buf.len() < 512 {
@@ -49,7 +49,7 @@ pub fn open(buf: &mut [u8], near: f64) -> usize
 }
 
 // The apsides of a closed orbit.
-pub fn closed(buf: &mut [u8], near: f64, far: f64) -> usize
+pub fn closed_orbit(buf: &mut [u8], near: f64, far: f64) -> usize
     ensures { λ r. ⌜ Line (closedText near far) (now (buf .entry)) (now (buf .exit)) r ⌝ }
 {
     if buf.len() < 512 {

@@ -1,4 +1,4 @@
--- `closed`: two labelled numbers, and the bits of both.
+-- `closed_orbit`: two labelled numbers, and the bits of both.
 use native.Mathlib.Omega.{arith}
 use mathlib.Core.List.{[], _∷_}
 use denote.Ref.{now}
@@ -8,8 +8,8 @@ use Rattle.text.proofs.Stand.{then, same-size}
 use Rattle.figures.specs.Figures.{fixedOf}
 use Rattle.answers.proofs.RowLaws.{row-short, figure-fits}
 use Rattle.answers.proofs.LineLaws.{no-line, a-line}
-use Rattle.answers.proofs.lines.closed.Statement.{statement}
-use Rattle.answers.proofs.lines.closed.Tie as tie
+use Rattle.answers.proofs.lines.closed_orbit.Statement.{statement}
+use Rattle.answers.proofs.lines.closed_orbit.Tie as tie
 
 returns : tie.Need-returns
 returns c = no-line (closedText (c .before .before .args .near) (c .before .before .args .far)) (now (c .before .before .args .buf)) (c .if1 .taken)
@@ -52,8 +52,8 @@ same-length c = search needs
 returns-2 : tie.Need-returns-2
 returns-2 c = a-line (c .before .before .before .before .before .before .before .before .before .before .before .before .before .before .before .before .before .if1 .left) (then (then (c .before .before .before .before .before .before .before .before .before .before .before .before .before .put-labelled .ensures) (c .before .before .before .before .before .before .before .put-labelled2 .ensures)) (c .before .before .put-end .ensures))
 
-pub closed-spec : {M : Type 1} → statement M
-closed-spec =
+pub closed-orbit-spec : {M : Type 1} → statement M
+closed-orbit-spec =
     tie.close
     (tie.spec
     returns
