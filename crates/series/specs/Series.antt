@@ -6,6 +6,9 @@ use lib.Ieee.{Float, neg}
 use Rattle.real.specs.F64.{_⊕_, _⊖_, _⊗_, _⊘_, bits, f1, f2, f4, f6, finite, sizeOf, _≤ᶠ_}
 use Rattle.real.specs.declared.Answer.{Answer}
 use Rattle.real.specs.declared.Answer.the-variants.{Value, Refused}
+use Rattle.series.specs.declared.Pair.{Pair}
+use Rattle.series.specs.declared.Both.{Both}
+use Rattle.series.specs.declared.Both.the-variants as B
 
 -- 12, 30, 56, 90, 132, 182, 240, 306
 abbrev pub cDivisors : List Float
@@ -51,6 +54,13 @@ unfoldable mutual
   sAt zero x = sSeries x
   sAt (suc n) x = let more = sQuarter (x ⊘ f4) (sAt n (x ⊘ f4)) (cAt n (x ⊘ f4)) in cond (small x) (sSeries x) more
 
+-- c and s at one ξ
+abbrev pub seriesPair : Float → Pair
+seriesPair x = record { c = cSeries x; s = sSeries x }
+
+abbrev pub pairAt : ℕ → Float → Pair
+pairAt n x = record { c = cAt n x; s = sAt n x }
+
 -- three quarterings are always enough in the range: `Enough` has both clauses without the number
 abbrev pub cOf : Float → Float
 cOf x = cAt 3 x
@@ -65,6 +75,9 @@ inRange x = cond (neg (bits 0x4049_0000_0000_0000) ≤ᶠ x) (x ≤ᶠ bits 0x40
 -- 1 for a ξ that is not finite, 6 for one out of its range
 unfoldable pub answer : Float → Float → Answer
 answer x v = cond (not (finite x)) (Refused 1) (cond (not (inRange x)) (Refused 6) (Value v))
+
+unfoldable pub bothAnswer : Float → Both
+bothAnswer x = cond (not (finite x)) (B.Refused 1) (cond (not (inRange x)) (B.Refused 6) (B.Values (pairAt 3 x)))
 
 -- what the two routines answer
 abbrev pub cAnswer : Float → Answer

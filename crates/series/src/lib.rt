@@ -2,7 +2,18 @@
 use real::Answer;
 ghost use mathlib.Core.Path.{_≡_};
 ghost use lib.ListN.{length};
-ghost use Rattle.series.specs.Series.{nest, cSeries, sSeries, small, cAt, sAt, inRange, cAnswer, sAnswer};
+ghost use Rattle.series.specs.Series.{nest, cSeries, sSeries, small, cAt, sAt, inRange, seriesPair, pairAt, cAnswer, sAnswer, bothAnswer};
+
+// c and s at one ξ.
+pub struct Pair {
+    pub c: f64,
+    pub s: f64,
+}
+
+pub enum Both {
+    Values(Pair),
+    Refused(u32),
+}
 
 const C_DIVISORS: [f64; 8] = [12.0, 30.0, 56.0, 90.0, 132.0, 182.0, 240.0, 306.0];
 
@@ -70,6 +81,34 @@ fn s_at(left: u32, xi: f64) -> f64
     (s + c * (1.0 - q * s)) / 4.0
 }
 
+// Both at once, as the conic formulas want them: the quarter is worked out once for the two.
+fn both_at(left: u32, xi: f64) -> Pair
+    ensures { λ r. ⌜ r ≡ pairAt left xi ⌝ }
+{
+    if left == 0 {
+        return series_pair(xi);
+    }
+    if is_small(xi) {
+        return series_pair(xi);
+    }
+    let q = xi / 4.0;
+    let p = both_at(left - 1, q);
+    let b = 1.0 - q * p.s;
+    Pair {
+        c: b * b / 2.0,
+        s: (p.s + p.c * b) / 4.0,
+    }
+}
+
+fn series_pair(xi: f64) -> Pair
+    ensures { λ r. ⌜ r ≡ seriesPair xi ⌝ }
+{
+    Pair {
+        c: c_series(xi),
+        s: s_series(xi),
+    }
+}
+
 fn in_range(xi: f64) -> bool
     ensures { λ r. ⌜ r ≡ inRange xi ⌝ }
 {
@@ -100,4 +139,17 @@ pub fn s(xi: f64) -> Answer
         return Answer::Refused(6);
     }
     Answer::Value(s_at(3, xi))
+}
+
+// c and s at ξ, refused likewise.
+pub fn c_and_s(xi: f64) -> Both
+    ensures { λ r. ⌜ r ≡ bothAnswer xi ⌝ }
+{
+    if !real::is_finite(xi) {
+        return Both::Refused(1);
+    }
+    if !in_range(xi) {
+        return Both::Refused(6);
+    }
+    Both::Values(both_at(3, xi))
 }
