@@ -1,16 +1,15 @@
 -- What the judge answers is under, over or a computed time judged; the refusal number of the tests is the first row's that applies,
 -- and 1 where an input is infinite or not a number; a velocity in range is finite. Assumes nothing.
-use Prim.Native.Nat.{ℕ}
-use mathlib.Core.Path.{_≡_, ap, _∙_}
-use mathlib.Core.Bool.{true, false, cond, _&&_}
-use mathlib.Core.List.{[], _∷_}
+use mathlib.Core.Path.{_≡_, sym, ap, _∙_}
+use mathlib.Core.Bool.{true, false, _&&_}
+use mathlib.Core.List.{List, [], _∷_}
 use lib.IntN.{ℤ}
 use lib.Ieee.{Float}
 use Rattle.real.specs.F64.{finite}
 use Rattle.vector.specs.declared.Vector.{Vector}
 use Rattle.vector.specs.declared.rows.Test.{Test}
-use Rattle.vector.specs.Rows.{_▷_, numberOf, passes, row, firstOf, finiteNumber, finiteInputs, muRow, transferTimeRow}
-use Rattle.vector.proofs.Table.{Finite, holds-numbered, both-numbered, then-assoc, then-number, last-number, then-passes, holds-passes, finite-inputs, position-row, transfer-time, velocity-finite}
+use Rattle.vector.specs.Rows.{_▷_, Row, numberOf, passes, row, firstOf, finiteNumber, finiteInputs, muRow, transferTimeRow}
+use Rattle.vector.proofs.Table.{Finite, holds-numbered, both-numbered, then-assoc, then-passed, chainOf, AllNumbered, chain-number, then-passes, holds-passes, finite-inputs, position-row, transfer-time, velocity-finite}
 use Rattle.vector.proofs.Inputs.{allFinite, inputs-finite}
 use Rattle.conic.specs.Conic.{gridOf}
 use Rattle.iterator.proofs.Single.{Told, under, over, timed}
@@ -51,20 +50,35 @@ module _ (mu : Float) (first second : Vector) (t : Float) (d : Transfer) where
   abbrev D : Test
   D = derivedRow d
 
-  in-a-row : lambertTests mu first second t d ≡ A ▷ (M ▷ (P ▷ (T ▷ (G ▷ D))))
+  -- the rows in the order of the table
+  abbrev table : List Row
+  table = row 1 A ∷ row 2 M ∷ row 3 P ∷ row 5 T ∷ row 10 G ∷ row 6 D ∷ []
+
+  in-a-row : lambertTests mu first second t d ≡ chainOf table
   in-a-row =
       then-assoc (A ▷ M ▷ P ▷ T) G D ∙ then-assoc (A ▷ M ▷ P) T (G ▷ D) ∙ then-assoc (A ▷ M) P (T ▷ (G ▷ D)) ∙ then-assoc A M (P ▷ (T ▷ (G ▷ D)))
+      ∙ ap (λ (x : Test). A ▷ (M ▷ (P ▷ (T ▷ (G ▷ x))))) (sym (then-passed D))
 
-  pub lambert-table : numberOf (lambertTests mu first second t d) ≡ firstOf (row 1 A ∷ row 2 M ∷ row 3 P ∷ row 5 T ∷ row 10 G ∷ row 6 D ∷ [])
-  unfolding firstOf
-  lambert-table =
-      ap numberOf in-a-row
-      ∙ then-number 1 A _ (both-numbered 1 _ _ (finite-inputs mu first second) (holds-numbered _ 1 3 0 t))
-      ∙ ap (λ (n : ℕ). cond (passes A) n 1) (then-number 2 M _ (holds-numbered _ 2 0 0 mu)
-      ∙ ap (λ (n : ℕ). cond (passes M) n 2) (then-number 3 P _ (both-numbered 3 _ _ (position-row 1 first (d .r1)) (position-row 2 second (d .r2)))
-      ∙ ap (λ (n : ℕ). cond (passes P) n 3) (then-number 5 T _ (transfer-time 3 t)
-      ∙ ap (λ (n : ℕ). cond (passes T) n 5) (then-number 10 G D (holds-numbered _ 10 0 0 (d .size))
-      ∙ ap (λ (n : ℕ). cond (passes G) n 10) (last-number 6 D (both-numbered 6 _ _ (holds-numbered _ 6 0 0 (d .ratio)) (holds-numbered _ 6 1 0 (d .cothalf))))))))
+  numbered : AllNumbered table
+  numbered = (
+    both-numbered 1 _ _ (finite-inputs mu first second) (holds-numbered _ 1 3 0 t),
+    (
+      holds-numbered _ 2 0 0 mu,
+      (
+        both-numbered 3 _ _ (position-row 1 first (d .r1)) (position-row 2 second (d .r2)),
+        (
+          transfer-time 3 t,
+          (
+            holds-numbered _ 10 0 0 (d .size),
+            (both-numbered 6 _ _ (holds-numbered _ 6 0 0 (d .ratio)) (holds-numbered _ 6 1 0 (d .cothalf)), tt),
+          ),
+        ),
+      ),
+    ),
+  )
+
+  pub lambert-table : numberOf (lambertTests mu first second t d) ≡ firstOf table
+  lambert-table = ap numberOf in-a-row ∙ chain-number table numbered
 
   -- an input that is infinite or not a number is refused with 1, whatever else holds
   pub lambert-not-finite : (finite mu && allFinite first && allFinite second && finite t) ≡ false → numberOf (lambertTests mu first second t d) ≡ 1

@@ -1,11 +1,11 @@
 -- The refusal number is the first row's that applies, 1 where an input is infinite or not a number, and 6 where r×v has length 0 and
 -- the rows ahead pass; a time that is handed out is finite, and its state is the one given. Assumes nothing.
-use Prim.Native.Nat.{ℕ, zero, suc, _*_, _<_}
+use Prim.Native.Nat.{zero, suc, _*_, _<_}
 use native.Mathlib.Nat.{mul-pos, zero-lt-suc}
 use native.Mathlib.Omega.{arith}
 use mathlib.Core.Path.{_≡_, refl, sym, ap, _∙_, subst}
 use mathlib.Core.Bool.{Bool, true, false, cond, _&&_, false≢true}
-use mathlib.Core.List.{[], _∷_}
+use mathlib.Core.List.{List, [], _∷_}
 use lib.Dec.{T, eqb, eqb→eq}
 use lib.Ieee as Ieee
 use lib.Ieee.{Float, nan, inf, fin, up, ofBits}
@@ -17,8 +17,8 @@ use Rattle.vector.specs.declared.rows.Test.{Test}
 use Rattle.vector.specs.declared.rows.Test.the-variants.{Passed, Failed}
 use Rattle.vector.specs.Vectors.{positionOf, velocityOf, dotOf, crossOf, lengthOf}
 use Rattle.vector.specs.Rows as Rows
-use Rattle.vector.specs.Rows.{_▷_, passes, row, firstOf, finiteNumber, finiteInputs, muRow, positionRow, velocityComponents, stateRows}
-use Rattle.vector.proofs.Table.{Numbered, holds-numbered, both-numbered, then-assoc, then-number, last-number, then-passes, holds-passes, finite-inputs, position-row, velocity-components, Finite, passes-left, passes-right, position-finite, velocity-finite}
+use Rattle.vector.specs.Rows.{_▷_, Row, passes, row, firstOf, finiteNumber, finiteInputs, muRow, positionRow, velocityComponents, stateRows}
+use Rattle.vector.proofs.Table.{Numbered, holds-numbered, both-numbered, then-assoc, then-passed, chainOf, AllNumbered, chain-number, last-number, then-passes, holds-passes, finite-inputs, position-row, velocity-components, Finite, passes-left, passes-right, position-finite, velocity-finite}
 use Rattle.vector.proofs.Inputs.{allFinite, inputs-finite}
 use Rattle.iterator.proofs.Tests.{and-0}
 use Rattle.iterator.proofs.Single.{in-time-finite}
@@ -59,22 +59,37 @@ module _ (mu : Float) (s : State) (sin cos : Float) (d : Sweep) where
   abbrev D : Test
   D = derivedRow d
 
-  in-a-row : thetaTests mu s sin cos d ≡ A ▷ (M ▷ (P ▷ (W ▷ (G ▷ D))))
+  -- the rows in the order of the table
+  abbrev table : List Row
+  table = row 1 A ∷ row 2 M ∷ row 3 P ∷ row 4 W ∷ row 10 G ∷ row 6 D ∷ []
+
+  in-a-row : thetaTests mu s sin cos d ≡ chainOf table
   in-a-row =
       then-assoc (A ▷ (M ▷ P ▷ W)) G D
       ∙ then-assoc A (M ▷ P ▷ W) (G ▷ D)
       ∙ ap (λ (x : Test). A ▷ x) (then-assoc (M ▷ P) W (G ▷ D) ∙ then-assoc M P (W ▷ (G ▷ D)))
+      ∙ ap (λ (x : Test). A ▷ (M ▷ (P ▷ (W ▷ (G ▷ x))))) (sym (then-passed D))
 
-  pub theta-table : Rows.numberOf (thetaTests mu s sin cos d) ≡ firstOf (row 1 A ∷ row 2 M ∷ row 3 P ∷ row 4 W ∷ row 10 G ∷ row 6 D ∷ [])
-  unfolding firstOf
-  theta-table =
-      ap Rows.numberOf in-a-row
-      ∙ then-number 1 A _ (both-numbered 1 _ _ (both-numbered 1 _ _ (finite-inputs mu (positionOf s) (velocityOf s)) (holds-numbered _ 1 3 0 sin)) (holds-numbered _ 1 4 0 cos))
-      ∙ ap (λ (n : ℕ). cond (passes A) n 1) (then-number 2 M _ (holds-numbered _ 2 0 0 mu)
-      ∙ ap (λ (n : ℕ). cond (passes M) n 2) (then-number 3 P _ (position-row 1 (positionOf s) (d .r1))
-      ∙ ap (λ (n : ℕ). cond (passes P) n 3) (then-number 4 W _ (velocity-components 4 2 (velocityOf s))
-      ∙ ap (λ (n : ℕ). cond (passes W) n 4) (then-number 10 G D (both-numbered 10 _ _ (holds-numbered _ 10 0 0 (d .excess)) (holds-numbered _ 10 1 0 (d .versine)))
-      ∙ ap (λ (n : ℕ). cond (passes G) n 10) (last-number 6 D (derived-numbered d))))))
+  numbered : AllNumbered table
+  numbered = (
+    both-numbered 1 _ _ (both-numbered 1 _ _ (finite-inputs mu (positionOf s) (velocityOf s)) (holds-numbered _ 1 3 0 sin)) (holds-numbered _ 1 4 0 cos),
+    (
+      holds-numbered _ 2 0 0 mu,
+      (
+        position-row 1 (positionOf s) (d .r1),
+        (
+          velocity-components 4 2 (velocityOf s),
+          (
+            both-numbered 10 _ _ (holds-numbered _ 10 0 0 (d .excess)) (holds-numbered _ 10 1 0 (d .versine)),
+            (derived-numbered d, tt),
+          ),
+        ),
+      ),
+    ),
+  )
+
+  pub theta-table : Rows.numberOf (thetaTests mu s sin cos d) ≡ firstOf table
+  theta-table = ap Rows.numberOf in-a-row ∙ chain-number table numbered
 
 -- ---- the answer's number
 

@@ -39,6 +39,11 @@ unfolding _▷_ numberOf passes
 then-number n Passed b g = refl
 then-number n (Failed f) b g = g
 
+pub last-number : (n : ℕ) (a : Test) → Numbered n a → numberOf a ≡ cond (passes a) 0 n
+unfolding numberOf passes
+last-number n Passed g = refl
+last-number n (Failed f) g = g
+
 -- ---- the table as a whole
 
 -- the tests of the rows, one after the other
