@@ -1,5 +1,5 @@
 // The checksum of the answers: each number is folded as its bits, a refusal as its number.
-use crate::series::wrapping_mul;
+use crate::inputs::wrapping_mul;
 use solve::Grade;
 use solve::Solution;
 use vector::State;

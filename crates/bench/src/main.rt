@@ -1,8 +1,8 @@
 // A fixed series of solves and a checksum of the answers' bits: `bench NAME [COUNT]`, or every series, short, with no
 // argument. second/README.md has the series in words.
 mod fold;
-mod series;
-mod session;
+mod inputs;
+mod records;
 
 use lambert::Way;
 use libc::STDERR_FILENO;
@@ -29,16 +29,16 @@ enum Named {
 }
 
 fn root(from: &mut u64, sum: u64) -> u64 {
-    match root::root(series::magnitude(from)) {
+    match root::root(inputs::magnitude(from)) {
         Answer::Value(x) => fold::number(sum, x),
         Answer::Refused(no) => fold::refusal(sum, no),
     }
 }
 
 fn advance(from: &mut u64, sum: u64) -> u64 {
-    let mu = series::mu(from);
-    let s = series::state(from);
-    let t = series::between(from, -524288.0, 524288.0);
+    let mu = inputs::mu(from);
+    let s = inputs::state(from);
+    let t = inputs::between(from, -524288.0, 524288.0);
     match solve::advance(mu, s, t) {
         Advanced::Found(to, x) => fold::state(fold::solution(sum, x), to),
         Advanced::TooLong => fold::refusal(sum, 7),
@@ -48,10 +48,10 @@ fn advance(from: &mut u64, sum: u64) -> u64 {
 }
 
 fn lambert(from: &mut u64, sum: u64) -> u64 {
-    let mu = series::mu(from);
-    let first = series::position(from);
-    let second = series::position(from);
-    let t = series::between(from, 16384.0, 1048576.0);
+    let mu = inputs::mu(from);
+    let first = inputs::position(from);
+    let second = inputs::position(from);
+    let t = inputs::between(from, 16384.0, 1048576.0);
     match solve::transfer_velocity(mu, first, second, way(from), t) {
         Transferred::Found(v, x) => fold::vector(fold::solution(sum, x), v),
         Transferred::TooLong => fold::refusal(sum, 7),
@@ -61,16 +61,16 @@ fn lambert(from: &mut u64, sum: u64) -> u64 {
 }
 
 fn way(from: &mut u64) -> Way {
-    if series::next(from) % 2 == 1 {
+    if inputs::next(from) % 2 == 1 {
         return Way::Long;
     }
     Way::Short
 }
 
 fn theta(from: &mut u64, sum: u64) -> u64 {
-    let mu = series::mu(from);
-    let s = series::state(from);
-    let h = series::between(from, -4.0, 4.0);
+    let mu = inputs::mu(from);
+    let s = inputs::state(from);
+    let h = inputs::between(from, -4.0, 4.0);
     let all = 1.0 + h * h;
     match theta::time_theta(mu, s, (h + h) / all, (1.0 - h * h) / all) {
         TransferTime::Time(x) => fold::number(sum, x.time),
@@ -106,9 +106,9 @@ fn listings(s: &[u8], out: &mut [u8], count: u64) -> u64 {
 }
 
 fn list(count: u64) -> u64 {
-    let mut from = series::SEED;
+    let mut from = inputs::SEED;
     let mut buf = io::large_buffer();
-    let made = session::make(&mut from, &mut buf);
+    let made = records::make(&mut from, &mut buf);
     let n = within(made, &buf);
     let mut out = [0u8; 131072];
     listings(&buf[..n], &mut out, count)
@@ -125,7 +125,7 @@ fn once(bench: Bench, from: &mut u64, sum: u64) -> u64 {
 }
 
 fn solves(bench: Bench, count: u64) -> u64 {
-    let mut from = series::SEED;
+    let mut from = inputs::SEED;
     let mut sum = fold::EMPTY;
     let mut k = 0;
     while k < count {

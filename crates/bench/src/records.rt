@@ -1,7 +1,7 @@
 // A session of all kinds of record, made from the series.
 use crate::fold::bits;
-use crate::series::between;
-use crate::series::next;
+use crate::inputs::between;
+use crate::inputs::next;
 
 // The lowest n bytes of v, the least significant first; the answer is the place behind them.
 fn put(buf: &mut [u8], at: usize, n: usize, v: u64) -> usize {
