@@ -172,7 +172,7 @@ fn print(sum: u64) {
     io::write_all(STDOUT_FILENO, &line);
 }
 
-fn named(name: &[u8]) -> Named {
+fn bench_of(name: &[u8]) -> Named {
     if check::same(name, b"root") {
         return Named::Bench(Bench::Root);
     }
@@ -244,7 +244,7 @@ fn main() {
     }
     let mut word = io::buffer();
     let n = os::arg(1, &mut word);
-    match named(&word[..n]) {
+    match bench_of(&word[..n]) {
         Named::Bench(bench) => print(run(bench, count_for(bench))),
         Named::Unknown => {
             io::write_all(
