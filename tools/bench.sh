@@ -8,7 +8,7 @@ export LC_ALL=C
 declare -F toolchain >/dev/null || exec "$(dirname "${BASH_SOURCE[0]}")/../cabin" bench
 
 runs=5
-benches=(root:1000000 advance:50000 lambert:10000 theta:100000 list:1000)
+benches=(root:4000000 advance:100000 lambert:20000 theta:200000 list:1000)
 
 # Debian's cross compiler, where the machine's own is for another processor.
 cross_compiler() {
@@ -26,13 +26,11 @@ build_c() {
         fail "the second program could not be built for x86-64"
 }
 
-# Runs a program, adds its microseconds to the file, and prints what it printed.
+# Runs a program and adds its seconds of processor time, which a busy machine disturbs least, to the file.
 timed() { # FILE WORD..
-    local file=$1 from=$EPOCHREALTIME sum
+    local file=$1 TIMEFORMAT=%U
     shift
-    sum=$("$@")
-    printf '%s\n' "$((${EPOCHREALTIME/./} - ${from/./}))" >>"$file"
-    printf '%s\n' "$sum"
+    { time "$@" 2>&3; } 3>&2 2>>"$file"
 }
 
 median() { sort -n "$1" | sed -n "$((runs / 2 + 1))p"; }
@@ -48,7 +46,7 @@ compare() { # NAME COUNT
         [ "$a" = "$b" ] || fail "$1: the answers differ: checksum $a in Rattle, $b in C" 1
     done
     awk -v name="$1" -v count="$2" -v r="$(median "$times/rattle")" -v c="$(median "$times/c")" \
-        'BEGIN { printf "%-8s %10d %10.3f %10.3f %8.2f\n", name, count, r / 1e6, c / 1e6, r / c }'
+        'BEGIN { printf "%-8s %10d %10.3f %10.3f %8.2f\n", name, count, r, c, r / c }'
 }
 
 build_c
