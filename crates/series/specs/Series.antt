@@ -68,9 +68,16 @@ cOf x = cAt 3 x
 abbrev pub sOf : Float → Float
 sOf x = sAt 3 x
 
+-- −50 and 39.46875
+abbrev pub leastXi : Float
+leastXi = neg (bits 0x4049_0000_0000_0000)
+
+abbrev pub mostXi : Float
+mostXi = bits 0x4043_bc00_0000_0000
+
 -- −50 ≤ ξ ≤ 39.46875
 unfoldable pub inRange : Float → Bool
-inRange x = cond (neg (bits 0x4049_0000_0000_0000) ≤ᶠ x) (x ≤ᶠ bits 0x4043_bc00_0000_0000) false
+inRange x = cond (leastXi ≤ᶠ x) (x ≤ᶠ mostXi) false
 
 -- 1 for a ξ that is not finite, 6 for one out of its range
 unfoldable pub answer : Float → Float → Answer
