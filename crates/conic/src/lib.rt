@@ -1,5 +1,5 @@
 // What the conic routines share: the grid, two derived numbers with their rows, and the time of a trial.
-use real::Answer;
+use series::Both;
 use vector::Test;
 use vector::Vector;
 ghost use mathlib.Core.Path.{_≡_};
@@ -76,12 +76,11 @@ pub fn point_at(o: Orbit, x: f64, xi: f64) -> Trial
     ensures { λ r. ⌜ r ≡ pointAt o x xi ⌝ }
 {
     let z = x * x;
-    let Answer::Value(c) = series::c(xi) else {
+    let Both::Values(p) = series::c_and_s(xi) else {
         return Trial::Out;
     };
-    let Answer::Value(s) = series::s(xi) else {
-        return Trial::Out;
-    };
+    let c = p.c;
+    let s = p.s;
     let t = time(o, x, z, c, s);
     Trial::At(Point { x, z, xi, c, s, t })
 }

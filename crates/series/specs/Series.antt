@@ -6,6 +6,9 @@ use lib.Ieee.{Float, neg}
 use Rattle.real.specs.F64.{_⊕_, _⊖_, _⊗_, _⊘_, bits, f1, f2, f4, f6, finite, sizeOf, _≤ᶠ_}
 use Rattle.real.specs.declared.Answer.{Answer}
 use Rattle.real.specs.declared.Answer.the-variants.{Value, Refused}
+use Rattle.series.specs.declared.Pair.{Pair}
+use Rattle.series.specs.declared.Both.{Both}
+use Rattle.series.specs.declared.Both.the-variants as B
 
 -- 12, 30, 56, 90, 132, 182, 240, 306
 abbrev pub cDivisors : List Float
@@ -51,6 +54,9 @@ unfoldable mutual
   sAt zero x = sSeries x
   sAt (suc n) x = let more = sQuarter (x ⊘ f4) (sAt n (x ⊘ f4)) (cAt n (x ⊘ f4)) in cond (small x) (sSeries x) more
 
+abbrev pub bothAt : ℕ → Float → Pair
+bothAt n x = record { c = cAt n x; s = sAt n x }
+
 -- three quarterings are always enough in the range: `Enough` has both clauses without the number
 abbrev pub cOf : Float → Float
 cOf x = cAt 3 x
@@ -72,3 +78,12 @@ cAnswer x = answer x (cOf x)
 
 abbrev pub sAnswer : Float → Answer
 sAnswer x = answer x (sOf x)
+
+-- both in one answer
+unfoldable pub together : Answer → Answer → Both
+together (Refused n) b = B.Refused n
+together (Value c) (Refused n) = B.Refused n
+together (Value c) (Value s) = B.Values (record { c = c; s = s })
+
+abbrev pub bothAnswer : Float → Both
+bothAnswer x = together (cAnswer x) (sAnswer x)

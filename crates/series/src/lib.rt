@@ -2,7 +2,19 @@
 use real::Answer;
 ghost use mathlib.Core.Path.{_≡_};
 ghost use lib.ListN.{length};
-ghost use Rattle.series.specs.Series.{nest, cSeries, sSeries, small, cAt, sAt, inRange, cAnswer, sAnswer};
+ghost use Rattle.series.specs.Series.{nest, cSeries, sSeries, small, cAt, sAt, bothAt, inRange, cAnswer, sAnswer, bothAnswer};
+
+// c and s at one ξ.
+pub struct Pair {
+    pub c: f64,
+    pub s: f64,
+}
+
+// Both, or the refusal's number.
+pub enum Both {
+    Values(Pair),
+    Refused(u32),
+}
 
 const C_DIVISORS: [f64; 8] = [12.0, 30.0, 56.0, 90.0, 132.0, 182.0, 240.0, 306.0];
 
@@ -70,6 +82,34 @@ fn s_at(left: u32, xi: f64) -> f64
     (s + c * (1.0 - q * s)) / 4.0
 }
 
+// c and s together, which share what they need at each quarter.
+fn both_at(left: u32, xi: f64) -> Pair
+    ensures { λ r. ⌜ r ≡ bothAt left xi ⌝ }
+{
+    if left == 0 {
+        return series_at(xi);
+    }
+    if is_small(xi) {
+        return series_at(xi);
+    }
+    let q = xi / 4.0;
+    let p = both_at(left - 1, q);
+    let b = 1.0 - q * p.s;
+    Pair {
+        c: b * b / 2.0,
+        s: (p.s + p.c * b) / 4.0,
+    }
+}
+
+fn series_at(xi: f64) -> Pair
+    ensures { λ r. ⌜ r ≡ bothAt 0 xi ⌝ }
+{
+    Pair {
+        c: c_series(xi),
+        s: s_series(xi),
+    }
+}
+
 fn in_range(xi: f64) -> bool
     ensures { λ r. ⌜ r ≡ inRange xi ⌝ }
 {
@@ -100,4 +140,17 @@ pub fn s(xi: f64) -> Answer
         return Answer::Refused(6);
     }
     Answer::Value(s_at(3, xi))
+}
+
+// c and s at ξ, refused likewise.
+pub fn c_and_s(xi: f64) -> Both
+    ensures { λ r. ⌜ r ≡ bothAnswer xi ⌝ }
+{
+    if !real::is_finite(xi) {
+        return Both::Refused(1);
+    }
+    if !in_range(xi) {
+        return Both::Refused(6);
+    }
+    Both::Values(both_at(3, xi))
 }
