@@ -18,11 +18,11 @@ cross_compiler() {
         fail "they could not be installed: install gcc-x86-64-linux-gnu and libc6-dev-amd64-cross, then try again"
 }
 
-# Static, so that it needs no loader, and without libm: its one function is an instruction.
+# At -O3, C at its best; static, so that it needs no loader; without libm, whose one function is an instruction.
 build_c() {
     local cc=gcc
     [ "$(uname -m)" = x86_64 ] || { cross_compiler && cc=x86_64-linux-gnu-gcc; }
-    make -s -C "$home/second" CC=$cc OUT=../target/second-x86-64 LDFLAGS=-static LDLIBS= >&2 ||
+    make -s -C "$home/second" CC=$cc OPT=-O3 OUT=../target/second-x86-64 LDFLAGS=-static LDLIBS= >&2 ||
         fail "the second program could not be built for x86-64"
 }
 

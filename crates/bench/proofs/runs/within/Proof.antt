@@ -2,8 +2,8 @@
 use mathlib.Core.Path.{sym}
 use lib.Seq.{length-take-le}
 use borrow.Author.Needs.{needs}
-use Rattle.bench.proofs.within.Statement.{statement}
-use Rattle.bench.proofs.within.Tie as tie
+use Rattle.bench.proofs.runs.within.Statement.{statement}
+use Rattle.bench.proofs.runs.within.Tie as tie
 
 returns : tie.Need-returns
 returns c = (search needs, sym (length-take-le _ _ (search needs)))

@@ -4,8 +4,8 @@ use native.Mathlib.Omega.{arith}
 use mathlib.Core.Path.{_≡_, refl, _∙_}
 use lib.ListN.{length}
 use borrow.Author.Needs.{needs}
-use Rattle.bench.proofs.listings.Statement.{statement}
-use Rattle.bench.proofs.listings.Tie as tie
+use Rattle.bench.proofs.runs.listings.Statement.{statement}
+use Rattle.bench.proofs.runs.listings.Tie as tie
 
 abbrev Inv-loop : tie.InvT-loop
 Inv-loop s out₀ count sum₀ n₀ k₀ out sum n k = (length out ≡ length out₀) × (k ≤ count)

@@ -1,8 +1,8 @@
 -- One solve fewer is left each turn. Assumes nothing.
 use Prim.Native.Nat.{_≤_, _-_}
 use borrow.Author.Needs.{needs}
-use Rattle.bench.proofs.solves.Statement.{statement}
-use Rattle.bench.proofs.solves.Tie as tie
+use Rattle.bench.proofs.runs.solves.Statement.{statement}
+use Rattle.bench.proofs.runs.solves.Tie as tie
 
 abbrev Inv-loop : tie.InvT-loop
 Inv-loop bench count from₀ sum₀ k₀ from sum k = k ≤ count
