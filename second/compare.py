@@ -15,9 +15,9 @@ def lines(name):
 
 
 def gets_an_answer(line):
-    if len(line) > 1000:
-        return True
-    return not line.startswith(b"#") and line.strip(b" \t\r") != b""
+    if line.startswith(b"#"):
+        return False
+    return len(line) > 1000 or line.strip(b" \t\r") != b""
 
 
 def shown(line):

@@ -170,10 +170,10 @@ static bool read_word(char letter, span w, word *out)
 int read_request(const char *line, size_t length, request *out)
 {
     span rest = { line, length };
-    if (length > LINE_MAX)
-        return 0;
     if (span_begins(rest, "#"))
         return NOTHING;
+    if (length > LINE_MAX)
+        return 0;
     span w = take_word(&rest);
     if (w.length == 0)
         return NOTHING;

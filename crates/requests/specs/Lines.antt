@@ -101,9 +101,9 @@ askedOf Unknown line = Unread 1
 abbrev pub isComment : List ℕ → Bool
 isComment line = eqb (getD line 0 0) 35
 
--- over 1,000 bytes: no word is read; a comment, or no word: nothing is asked
+-- a comment, or no word: nothing is asked; over 1,000 bytes: no word is read
 unfoldable pub requestOf : List ℕ → Request
 requestOf line =
-    cond (ltb 1000 (length line)) (Unread 0)
-    (cond (isComment line) Nothing
+    cond (isComment line) Nothing
+    (cond (ltb 1000 (length line)) (Unread 0)
     (cond (eqb (length (wordAt 0 line)) 0) Nothing (askedOf (routineOf (wordAt 0 line)) line)))

@@ -234,11 +234,11 @@ fn is_comment(line: &[u8]) -> bool
 pub fn read(line: &[u8]) -> Request
     ensures { λ x. ⌜ x ≡ requestOf (now (line .entry)) ⌝ }
 {
-    if line.len() > 1000 {
-        return Request::Unread(0);
-    }
     if is_comment(line) {
         return Request::Nothing;
+    }
+    if line.len() > 1000 {
+        return Request::Unread(0);
     }
     let name = words::word(line, 0);
     if name.len() == 0 {
