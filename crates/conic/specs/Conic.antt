@@ -3,9 +3,9 @@ use Prim.Native.Nat.{ℕ}
 use lib.IntN.{ℤ}
 use lib.Ieee.{Float, binary64, ofInt}
 use Rattle.real.specs.F64.{_⊕_, _⊖_, _⊗_, _⊘_, _≤ᶠ_, _<ᶠ_, two^, two^-, f1, sizeOf}
-use Rattle.real.specs.declared.Answer.{Answer}
-use Rattle.real.specs.declared.Answer.the-variants.{Value, Refused}
-use Rattle.series.specs.Series.{cAnswer, sAnswer}
+use Rattle.series.specs.declared.Both.{Both}
+use Rattle.series.specs.declared.Both.the-variants.{Values, Refused}
+use Rattle.series.specs.Series.{bothAnswer}
 use Rattle.vector.specs.declared.Vector.{Vector}
 use Rattle.vector.specs.declared.rows.Test.{Test}
 use Rattle.vector.specs.Vectors.{dotOf}
@@ -37,11 +37,10 @@ pRow input pN = holdsOf (pN ≤ᶠ two^ 4) 6 input 0 pN
 abbrev pub timeOf : Orbit → Float → Float → Float → Float → Float
 timeOf o x z c s = (o .c1 ⊗ (z ⊗ c) ⊕ x ⊗ (o .c2 ⊗ (z ⊗ s) ⊕ o .r1)) ⊘ o .rootmu
 
--- the trial's numbers from the answers of the two series: none where ξ is outside its range
-unfoldable pub trialOf : Orbit → Float → Float → Answer → Answer → Trial
-trialOf o x xi (Refused a) s = Out
-trialOf o x xi (Value c) (Refused b) = Out
-trialOf o x xi (Value c) (Value s) = At (record { x = x; z = x ⊗ x; xi = xi; c = c; s = s; t = timeOf o x (x ⊗ x) c s })
+-- the trial's numbers from c and s: none where ξ is outside its range
+unfoldable pub trialOf : Orbit → Float → Float → Both → Trial
+trialOf o x xi (Refused n) = Out
+trialOf o x xi (Values p) = At (record { x = x; z = x ⊗ x; xi = xi; c = p .c; s = p .s; t = timeOf o x (x ⊗ x) (p .c) (p .s) })
 
 unfoldable pub pointAt : Orbit → Float → Float → Trial
-pointAt o x xi = trialOf o x xi (cAnswer xi) (sAnswer xi)
+pointAt o x xi = trialOf o x xi (bothAnswer xi)

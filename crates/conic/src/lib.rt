@@ -79,8 +79,13 @@ pub fn point_at(o: Orbit, x: f64, xi: f64) -> Trial
     let Both::Values(p) = series::c_and_s(xi) else {
         return Trial::Out;
     };
-    let c = p.c;
-    let s = p.s;
-    let t = time(o, x, z, c, s);
-    Trial::At(Point { x, z, xi, c, s, t })
+    let t = time(o, x, z, p.c, p.s);
+    Trial::At(Point {
+        x,
+        z,
+        xi,
+        c: p.c,
+        s: p.s,
+        t,
+    })
 }

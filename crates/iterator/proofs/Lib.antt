@@ -1,4 +1,3 @@
-pub mod Tests
 pub mod Whole
 pub mod Strides
 pub mod Grids

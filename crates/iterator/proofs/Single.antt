@@ -18,7 +18,7 @@ use Rattle.iterator.specs.declared.Judgement.{Judgement}
 use Rattle.iterator.specs.declared.Judgement.the-variants.{Low, High, Under, Over}
 use Rattle.iterator.specs.declared.Bracket.{Bracket}
 use Rattle.iterator.specs.declared.Tried.the-variants.{Point, NoneLeft, Refused}
-use Rattle.iterator.proofs.Tests.{and-0, and-1, both}
+use Rattle.real.proofs.Tests.{and-0, and-1, both}
 use Rattle.iterator.proofs.Whole.{lt-le, le-trans}
 use Rattle.iterator.proofs.Grids.{in-grid}
 use Rattle.iterator.proofs.Trials.{inside}

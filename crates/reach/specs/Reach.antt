@@ -2,9 +2,10 @@
 use Prim.Native.Nat.{ℕ, zero, suc}
 use mathlib.Core.Bool.{cond, not, _&&_}
 use mathlib.Core.List.{List, [], _∷_}
-use lib.Ieee.{Float, neg}
-use Rattle.real.specs.F64.{_⊕_, _⊖_, _⊗_, _⊘_, _≤ᶠ_, _<ᶠ_, bits, two^, f0, f1, f3, f64, sizeOf}
+use lib.Ieee.{Float}
+use Rattle.real.specs.F64.{_⊕_, _⊖_, _⊗_, _⊘_, _≤ᶠ_, _<ᶠ_, bits, two^, f0, f1, f3, sizeOf}
 use Rattle.root.specs.Root.{rootOf}
+use Rattle.series.specs.Series.{leastXi, mostXi}
 use Rattle.vector.specs.declared.rows.Test.{Test}
 use Rattle.vector.specs.Rows.{holdsOf}
 use Rattle.conic.specs.declared.Orbit.{Orbit}
@@ -53,14 +54,14 @@ timeAt a rootp x xi = timed (pointAt (orbitOf a rootp) x xi)
 
 -- 6. y = α_N/(W·W). x_N = 64·g/W; x = √r1·x_N; ξ = α_N·(x_N·x_N).
 abbrev pub xNOf : Arc → Float → Float
-xNOf a w = f64 ⊗ gOf (a .alpha ⊘ (w ⊗ w)) ⊘ w
+xNOf a w = two^ 6 ⊗ gOf (a .alpha ⊘ (w ⊗ w)) ⊘ w
 
 -- x ≥ 2^17: over; ξ < −50: under; ξ > 39.46875 or not a number: over. Each as what must hold, so that a NaN is over.
 unfoldable pub judgedX : Arc → Float → Float → Float → Reached
 judgedX a rootp x xi =
     cond (not (x <ᶠ two^ 17)) Over
-    (cond (xi <ᶠ neg (bits 0x4049_0000_0000_0000)) Under
-    (cond (not (xi ≤ᶠ bits 0x4043_bc00_0000_0000)) Over (timeAt a rootp x xi)))
+    (cond (xi <ᶠ leastXi) Under
+    (cond (not (xi ≤ᶠ mostXi)) Over (timeAt a rootp x xi)))
 
 abbrev pub endedAt : Arc → Float → Float → Reached
 endedAt a rootp w = let xN = xNOf a w in judgedX a rootp (a .rootr1 ⊗ xN) (a .alpha ⊗ (xN ⊗ xN))

@@ -2,3 +2,4 @@
 pub mod CutLaws
 pub mod Bounds
 pub mod Finite
+pub mod Tests

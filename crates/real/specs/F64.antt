@@ -41,7 +41,7 @@ two^ k = bits ((1023 + k) * 0x10_0000_0000_0000)
 abbrev pub two^- : ℕ → Float
 two^- k = bits ((1023 - k) * 0x10_0000_0000_0000)
 
--- 0, 1, 2, 3, 4, 6 and 64
+-- 0, 1, 2, 3, 4 and 6
 abbrev pub f0 : Float
 f0 = bits 0
 
@@ -59,9 +59,6 @@ f4 = two^ 2
 
 abbrev pub f6 : Float
 f6 = bits 0x4018_0000_0000_0000
-
-abbrev pub f64 : Float
-f64 = two^ 6
 
 -- neither an infinity nor a NaN
 abbrev pub finite : Float → Bool

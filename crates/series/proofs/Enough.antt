@@ -10,9 +10,9 @@ use lib.Ieee.Bits.{is-true}
 use lib.Dec.{T, lit≤, lt→ltb, ltb}
 use lib.Ieee.{Float, nan, inf, fin, up, down, le, lt, eq, neg, ofBits}
 use lib.Ieee.Fits.{down-pos}
-use Rattle.real.specs.F64.{_⊘_, f0, f1, f4, bits}
+use Rattle.real.specs.F64.{_⊘_, f0, f1, f4}
 use Rattle.real.proofs.Bounds.{Within, div-within, or-cases, or-cases', at-most}
-use Rattle.series.specs.Series.{small, inRange, cAt, sAt, cOf, sOf, cSeries, sSeries, cQuarter, sQuarter}
+use Rattle.series.specs.Series.{small, leastXi, mostXi, inRange, cAt, sAt, cOf, sOf, cSeries, sSeries, cQuarter, sQuarter}
 
 -- ---- a quarter
 pub quarter : (x : Float) (a : ℕ) → a ≤ 9007199254740992 → Within x (4 * a) → Within (x ⊘ f4) a
@@ -43,14 +43,8 @@ true-of : (p q : Bool) → cond p q false ≡ true → T p × T q
 true-of true q h = (tt, subst T (sym h) tt)
 true-of false q h = absurd (subst T (sym h) tt)
 
-low : Float
-low = neg (bits 0x4049000000000000)
-
-high : Float
-high = bits 0x4043bc0000000000
-
-in-64 : (x : Float) → T (le low x) → T (le x high) → Within x 64
-unfolding low high le lt eq neg ofBits
+in-64 : (x : Float) → T (le leastXi x) → T (le x mostXi) → Within x 64
+unfolding le lt eq neg ofBits
 in-64 nan l h = absurd l
 in-64 (inf true) l h = absurd l
 in-64 (inf false) l h = absurd h
@@ -58,8 +52,8 @@ in-64 (fin true m e) l h = let k : m * up e * 1 ≤ 50 * down e = or-cases' (50 
 in-64 (fin false m e) l h = let k : m * up e * 32 ≤ 1263 * down e = or-cases (m * up e * 32) (1263 * down e) h in omega arith
 
 pub range-64 : (x : Float) → inRange x ≡ true → Within x 64
-unfolding inRange low high
-range-64 x h = let b = true-of (le low x) (le x high) h in in-64 x (b .0) (b .1)
+unfolding inRange
+range-64 x h = let b = true-of (le leastXi x) (le x mostXi) h in in-64 x (b .0) (b .1)
 
 third-is-small : (x : Float) → inRange x ≡ true → small (x ⊘ f4 ⊘ f4 ⊘ f4) ≡ true
 third-is-small x h =

@@ -54,8 +54,12 @@ unfoldable mutual
   sAt zero x = sSeries x
   sAt (suc n) x = let more = sQuarter (x ⊘ f4) (sAt n (x ⊘ f4)) (cAt n (x ⊘ f4)) in cond (small x) (sSeries x) more
 
-abbrev pub bothAt : ℕ → Float → Pair
-bothAt n x = record { c = cAt n x; s = sAt n x }
+-- c and s at one ξ
+abbrev pub seriesPair : Float → Pair
+seriesPair x = record { c = cSeries x; s = sSeries x }
+
+abbrev pub pairAt : ℕ → Float → Pair
+pairAt n x = record { c = cAt n x; s = sAt n x }
 
 -- three quarterings are always enough in the range: `Enough` has both clauses without the number
 abbrev pub cOf : Float → Float
@@ -64,13 +68,23 @@ cOf x = cAt 3 x
 abbrev pub sOf : Float → Float
 sOf x = sAt 3 x
 
+-- −50 and 39.46875
+abbrev pub leastXi : Float
+leastXi = neg (bits 0x4049_0000_0000_0000)
+
+abbrev pub mostXi : Float
+mostXi = bits 0x4043_bc00_0000_0000
+
 -- −50 ≤ ξ ≤ 39.46875
 unfoldable pub inRange : Float → Bool
-inRange x = cond (neg (bits 0x4049_0000_0000_0000) ≤ᶠ x) (x ≤ᶠ bits 0x4043_bc00_0000_0000) false
+inRange x = cond (leastXi ≤ᶠ x) (x ≤ᶠ mostXi) false
 
 -- 1 for a ξ that is not finite, 6 for one out of its range
 unfoldable pub answer : Float → Float → Answer
 answer x v = cond (not (finite x)) (Refused 1) (cond (not (inRange x)) (Refused 6) (Value v))
+
+unfoldable pub bothAnswer : Float → Both
+bothAnswer x = cond (not (finite x)) (B.Refused 1) (cond (not (inRange x)) (B.Refused 6) (B.Values (pairAt 3 x)))
 
 -- what the two routines answer
 abbrev pub cAnswer : Float → Answer
@@ -78,12 +92,3 @@ cAnswer x = answer x (cOf x)
 
 abbrev pub sAnswer : Float → Answer
 sAnswer x = answer x (sOf x)
-
--- both in one answer
-unfoldable pub together : Answer → Answer → Both
-together (Refused n) b = B.Refused n
-together (Value c) (Refused n) = B.Refused n
-together (Value c) (Value s) = B.Values (record { c = c; s = s })
-
-abbrev pub bothAnswer : Float → Both
-bothAnswer x = together (cAnswer x) (sAnswer x)

@@ -2,7 +2,7 @@
 use real::Answer;
 ghost use mathlib.Core.Path.{_≡_};
 ghost use lib.ListN.{length};
-ghost use Rattle.series.specs.Series.{nest, cSeries, sSeries, small, cAt, sAt, bothAt, inRange, cAnswer, sAnswer, bothAnswer};
+ghost use Rattle.series.specs.Series.{nest, cSeries, sSeries, small, cAt, sAt, inRange, seriesPair, pairAt, cAnswer, sAnswer, bothAnswer};
 
 // c and s at one ξ.
 pub struct Pair {
@@ -10,7 +10,6 @@ pub struct Pair {
     pub s: f64,
 }
 
-// Both, or the refusal's number.
 pub enum Both {
     Values(Pair),
     Refused(u32),
@@ -82,15 +81,15 @@ fn s_at(left: u32, xi: f64) -> f64
     (s + c * (1.0 - q * s)) / 4.0
 }
 
-// c and s together, which share what they need at each quarter.
+// Both at once, as the conic formulas want them: the quarter is worked out once for the two.
 fn both_at(left: u32, xi: f64) -> Pair
-    ensures { λ r. ⌜ r ≡ bothAt left xi ⌝ }
+    ensures { λ r. ⌜ r ≡ pairAt left xi ⌝ }
 {
     if left == 0 {
-        return series_at(xi);
+        return series_pair(xi);
     }
     if is_small(xi) {
-        return series_at(xi);
+        return series_pair(xi);
     }
     let q = xi / 4.0;
     let p = both_at(left - 1, q);
@@ -101,8 +100,8 @@ fn both_at(left: u32, xi: f64) -> Pair
     }
 }
 
-fn series_at(xi: f64) -> Pair
-    ensures { λ r. ⌜ r ≡ bothAt 0 xi ⌝ }
+fn series_pair(xi: f64) -> Pair
+    ensures { λ r. ⌜ r ≡ seriesPair xi ⌝ }
 {
     Pair {
         c: c_series(xi),

@@ -20,7 +20,7 @@ use Rattle.vector.specs.Rows as Rows
 use Rattle.vector.specs.Rows.{_▷_, Row, passes, row, firstOf, finiteNumber, finiteInputs, muRow, positionRow, velocityComponents, stateRows}
 use Rattle.vector.proofs.Table.{Numbered, holds-numbered, both-numbered, then-assoc, then-passed, chainOf, AllNumbered, chain-number, last-number, then-passes, holds-passes, finite-inputs, position-row, velocity-components, Finite, passes-left, passes-right, position-finite, velocity-finite}
 use Rattle.vector.proofs.Inputs.{allFinite, inputs-finite}
-use Rattle.iterator.proofs.Tests.{and-0}
+use Rattle.real.proofs.Tests.{and-0}
 use Rattle.iterator.proofs.Single.{in-time-finite}
 use Rattle.reach.specs.declared.Reached.{Reached}
 use Rattle.reach.specs.declared.Reached.the-variants as R

@@ -1,11 +1,12 @@
 -- The number of a chain of tests is that of the first row that fails; what each row's tests say together. Assumes nothing.
 use Prim.Native.Nat.{ℕ}
 use mathlib.Core.Path.{_≡_, refl, sym, ap, _∙_}
-use mathlib.Core.Bool.{Bool, true, false, cond, _&&_, false≢true}
+use mathlib.Core.Bool.{Bool, true, false, cond, _&&_}
 use mathlib.Core.List.{List, [], _∷_}
 use lib.Ieee.{Float, ofBits}
 use Rattle.real.specs.F64.{finite, two^}
 use Rattle.real.proofs.Finite.{size-under, size-at-most}
+use Rattle.real.proofs.Tests.{and-0, and-1}
 use Rattle.vector.specs.declared.Vector.{Vector}
 use Rattle.vector.specs.declared.rows.Test.{Test}
 use Rattle.vector.specs.declared.rows.Test.the-variants.{Passed, Failed}
@@ -111,19 +112,11 @@ pub record Finite (a : Vector) : Type 0 where
   pub y : finite (a .y) ≡ true
   pub z : finite (a .z) ≡ true
 
-and-left : (p q : Bool) → (p && q) ≡ true → p ≡ true
-and-left true q h = refl
-and-left false q h = h
-
-and-right : (p q : Bool) → (p && q) ≡ true → q ≡ true
-and-right true q h = h
-and-right false q h = absurd (false≢true h)
-
 pub passes-left : (a b : Test) → passes (a ▷ b) ≡ true → passes a ≡ true
-passes-left a b h = and-left (passes a) (passes b) (sym (then-passes a b) ∙ h)
+passes-left a b h = and-0 (passes a) (passes b) (sym (then-passes a b) ∙ h)
 
 pub passes-right : (a b : Test) → passes (a ▷ b) ≡ true → passes b ≡ true
-passes-right a b h = and-right (passes a) (passes b) (sym (then-passes a b) ∙ h)
+passes-right a b h = and-1 (passes a) (passes b) (sym (then-passes a b) ∙ h)
 
 pub held : (b : Bool) (n i p : ℕ) (x : Float) → passes (holdsOf b n i p x) ≡ true → b ≡ true
 held b n i p x h = sym (holds-passes b n i p x) ∙ h

@@ -8,8 +8,8 @@ use lib.ListN.{length}
 use borrow.Author.Needs.{needs}
 use Rattle.report.specs.Listing.{isDone, stepsFrom}
 use Rattle.report.proofs.Whole.{goes-on}
-use Rattle.show.proofs.list.Statement.{statement}
-use Rattle.show.proofs.list.Tie as tie
+use Rattle.listing.proofs.list.Statement.{statement}
+use Rattle.listing.proofs.list.Tie as tie
 
 abbrev Inv-loop : tie.InvT-loop
 Inv-loop s out₀ next₀ out next = (length out ≡ length out₀) × (40 ≤ length out) × (isDone next ≡ false)

@@ -1,4 +1,0 @@
-// Lists a session.
-fn main() {
-    show::listing();
-}

@@ -1,0 +1,74 @@
+#!/usr/bin/env python3
+"""sabotage: slips made in a copy of the second program, one at a time, and how many of 100,000 answers change.
+
+Prints the table of docs/TESTS.md; ends with 1 if a slip changes none."""
+import pathlib
+import shutil
+import subprocess
+import sys
+
+ROOT = pathlib.Path(__file__).resolve().parent.parent
+ROOM = ROOT / "target" / "sabotage"
+
+SLIPS = [
+    ("a wrong divisor of c", "series.c", "{ 12, 30, 56, 90, 132,", "{ 12, 30, 56, 90, 134,"),
+    ("a wrong divisor of s", "series.c", "210, 272, 342 }", "210, 272, 340 }"),
+    ("divisors walked from first to last", "series.c", "for (int k = 8; k-- > 0;)", "for (int k = 0; k < 8; k++)"),
+    ("`<` for `≤` at ξ = −50", "series.c", "return -50 <= xi && xi", "return -50 < xi && xi"),
+    ("`<` for `≤` at ξ = 39.46875", "series.c", "xi <= 39.46875;", "xi < 39.46875;"),
+    ("squares added in another order", "vector.h", "return a.x * b.x + a.y * b.y + a.z * b.z;", "return a.z * b.z + a.y * b.y + a.x * b.x;"),
+    ("the time's sum in another order", "conic.c", "return (c1 * (z * at.c) + x * (c2 * (z * at.s) + r1)) / root_mu;", "return (x * (r1 + c2 * (z * at.s)) + c1 * z * at.c) / root_mu;"),
+    ("row 2: `<` for `≤` at mu = 2^28", "conic.c", "return 0x1p28 <= mu &&", "return 0x1p28 < mu &&"),
+    ("row 2: `≤` for `<` at mu = 2^36", "conic.c", "mu < 0x1p36;", "mu <= 0x1p36;"),
+    ("row 3: `<` for `≤` at r = 2^18", "conic.c", "0x1p18 <= length(r)", "0x1p18 < length(r)"),
+    ("row 3: `≤` for `<` at r = 2^29", "conic.c", "return under(r, 0x1p29) && 0x1p18 <= length(r) && length(r) < 0x1p29;", "return at_most(r, 0x1p29) && 0x1p18 <= length(r) && length(r) <= 0x1p29;"),
+    ("row 4: `<` for `≤` at 2^7", "conic.c", "return at_most(v, 0x1p7);", "return under(v, 0x1p7);"),
+    ("row 5: `<` for `≤` at 2^28", "iterator.c", "return -0x1p28 <= t && t <= 0x1p28;", "return -0x1p28 <= t && t < 0x1p28;"),
+    ("row 5: a transfer time of 0 let in", "conic.c", "time_in_range(time) && time > 0 ? 0 : 5", "time_in_range(time) && time >= 0 ? 0 : 5"),
+    ("row 6: `≤` for `<` at c1 = 2^17", "conic.c", "fabs(k.c1) < 0x1p17", "fabs(k.c1) <= 0x1p17"),
+    ("row 6: `≤` for `<` at c2 = 2^6", "conic.c", "0x1p17 && fabs(k.c2) < 0x1p6", "0x1p17 && fabs(k.c2) <= 0x1p6"),
+    ("row 6: `≤` for `<` at r1/r2 = 2^7", "conic.c", "l.ratio < 0x1p7", "l.ratio <= 0x1p7"),
+    ("row 6: `<` for `≤` at sinθ/(1−cosθ) = 2^5", "conic.c", "return fabs(turn) <= 0x1p5;", "return fabs(turn) < 0x1p5;"),
+    ("row 6: `<` for `≤` at cot γ = 2^5", "conic.c", "fabs(cot) <= 0x1p5", "fabs(cot) < 0x1p5"),
+    ("row 10: `<` for `≤` at 2^-10", "conic.c", "if (!(sine >= 0x1p-10))", "if (!(sine > 0x1p-10))"),
+    ("row 10: `<` for `≤` at 2^-40", "conic.c", "- 1) <= 0x1p-40", "- 1) < 0x1p-40"),
+    ("row 10: `<` for `≤` at 2^-20", "conic.c", "1 - cosine >= 0x1p-20", "1 - cosine > 0x1p-20"),
+    ("row 9: `<` for `≤` at 2^7", "conic.c", "if (!at_most(found.v, 0x1p7))", "if (!under(found.v, 0x1p7))"),
+    ("the velocity not negated again", "conic.c", "found.v = back ? negated(to.v) : to.v;", "found.v = to.v;"),
+    ("odd and even trials swapped", "iterator.c", "if (number % 2 == 1 &&", "if (number % 2 == 0 &&"),
+    ("`<` for `≤` in a judgement", "conic.c", "f.t <= asked ? LOW : HIGH", "f.t < asked ? LOW : HIGH"),
+    ("W replaced four times", "conic.c", "for (int k = 0; k < 5; k++) {", "for (int k = 0; k < 4; k++) {"),
+]
+
+
+def built(source):
+    out = ROOM / "bin"
+    subprocess.run(["make", "-s", "-C", source, f"OUT={out}"], check=True)
+    return out / "second"
+
+
+def answers(program, requests):
+    return subprocess.run([program, "desk"], input=requests, capture_output=True, check=True).stdout.split(b"\n")
+
+
+def main():
+    shutil.rmtree(ROOM, ignore_errors=True)
+    source = ROOM / "second"
+    shutil.copytree(ROOT / "second", source)
+    program = built(source)
+    requests = subprocess.run([program, "requests", "1", "100000"], capture_output=True, check=True).stdout
+    right = answers(program, requests)
+    unseen = 0
+    print("| slip | answers that change |\n|---|---|")
+    for name, file, old, new in SLIPS:
+        text = (source / file).read_text()
+        assert text.count(old) == 1, (name, text.count(old))
+        (source / file).write_text(text.replace(old, new))
+        wrong = sum(a != b for a, b in zip(right, answers(built(source), requests)))
+        (source / file).write_text(text)
+        unseen += wrong == 0
+        print(f"| {name} | {wrong} |", flush=True)
+    return 1 if unseen else 0
+
+
+sys.exit(main())
