@@ -17,7 +17,7 @@ mkdir -p target
 log=$(mktemp)
 trap 'rm -f "$log"' EXIT
 # everything is printed as it comes, and the count is kept for the end
-rt ci 2>&1 | tee "$log" | sed '$d'
+rt ci 2>&1 | tee "$log" | sed -u '$d'
 count=$(tail -n 1 "$log")
 case $count in
 *" passed, 0 failed"*) ;;
