@@ -1,7 +1,7 @@
 -- The square root of an f64, over whole numbers.
 -- A finite f64 is a whole number of units of 2 ^ -1074, the smallest value. Where x is n units, the root of x is the root of n * 2 ^ 1074, in units.
 use mathlib.Core.Path.{_≡_}
-use Prim.Native.Nat.{ℕ, zero, suc, _+_, _-_, _*_, _/_, _%_, _^_, _<_}
+use Prim.Native.Nat.{ℕ, zero, suc, _+_, _-_, _*_, _/_, _%_, _^_, _≤_, _<_}
 use mathlib.Core.Bool.{true, false, cond}
 use lib.IntN.{ℤ}
 use lib.Dec.{T, leb}
@@ -48,6 +48,13 @@ rootAnswer (fin false m e) = Value (rootOf (fin false m e))
 -- the bits of the root of sig * 2 ^ (p - 2098), for a sig of 53 digits
 abbrev pub joinedBits : ℕ → ℕ → ℕ
 joinedBits sig p = (p / 2 - 1) * 4503599627370496 + (wholeRoot 54 (sig * 2 ^ (p % 2) * 18014398509481984) + 1) / 2
+
+-- s is the whole part of the root of a, and has 27 digits
+pub record HalfRoot (s a : ℕ) : Type 0 where
+  pub below : s * s ≤ a
+  pub above : a < (s + 1) * (s + 1)
+  pub least : 67108864 ≤ s
+  pub most : s < 134217728
 
 -- ---- what nearest means, over whole numbers
 

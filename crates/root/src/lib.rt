@@ -1,13 +1,67 @@
 // The square root of an f64, the nearest f64 (IEEE 754 squareRoot).
 use real::Answer;
 ghost use mathlib.Core.Path.{_≡_};
+ghost use mathlib.Core.Bool.{true};
 ghost use Prim.Native.Nat.{_+_, _*_, _^_, _≤_, _<_};
 ghost use lib.Ieee.{binary64, toBits, ofBits};
-ghost use Rattle.root.specs.Root.{rootOf, joinedBits, Rooted};
+ghost use Rattle.root.specs.Root.{HalfRoot, rootOf, joinedBits, Rooted};
 
-// The whole root of a * 2^54, digit by digit in base 4: after i turns
-// a * 4^i = (s * s + rem) * 4^27 + rest, with rest below 4^27 and rem at most 2 * s.
+// A guess at the whole root of an a from 2^52 to 2^54, by three of Newton's steps in f64. Nothing is promised of it:
+// whoever asks checks it over whole numbers.
+fn guess(a: u64) -> u64 {
+    let x = std::num::nearest_u64_to_f64(a);
+    let first = x * 4.967053731282552e-9 + 44739242.666666664;
+    let second = (first + x / first) * 0.5;
+    let third = (second + x / second) * 0.5;
+    real::cut((third + x / third) * 0.5)
+}
+
+// The whole root of a * 2^54 from s, that of a: 27 digits more by one division, which may give one too many.
+fn lifted(a: u64, s: u64) -> u64
+    requires { ⌜ HalfRoot s a ⌝ }
+    ensures { λ r. ⌜ (r * r ≤ a * 18014398509481984) × (a * 18014398509481984 < (r + 1) * (r + 1)) ⌝ }
+{
+    let d = (a - s * s) * 67108864;
+    let q = d / s;
+    let u = d % s;
+    if q * q <= u * 268435456 {
+        return s * 134217728 + q;
+    }
+    s * 134217728 + q - 1
+}
+
+// The whole root of a * 2^54.
 fn whole_root(a: u64) -> u64
+    requires { ⌜ a < 18014398509481984 ⌝ }
+    ensures { λ r. ⌜ (r * r ≤ a * 18014398509481984) × (a * 18014398509481984 < (r + 1) * (r + 1)) ⌝ }
+{
+    let s = guess(a);
+    if is_root(s, a) {
+        return lifted(a, s);
+    }
+    by_digits(a)
+}
+
+// s is the whole root of a, and has 27 digits.
+fn is_root(s: u64, a: u64) -> bool
+    ensures { λ r. ⌜ (r ≡ true → HalfRoot s a) ⌝ }
+{
+    if s < 67108864 {
+        return false;
+    }
+    if 134217728 <= s {
+        return false;
+    }
+    if s * s <= a {
+        a < (s + 1) * (s + 1)
+    } else {
+        false
+    }
+}
+
+// The same digit by digit in base 4, where the guess is not the root: after i turns
+// a * 4^i = (s * s + rem) * 4^27 + rest, with rest below 4^27 and rem at most 2 * s.
+fn by_digits(a: u64) -> u64
     requires { ⌜ a < 18014398509481984 ⌝ }
     ensures { λ r. ⌜ (r * r ≤ a * 18014398509481984) × (a * 18014398509481984 < (r + 1) * (r + 1)) ⌝ }
 {
