@@ -1,6 +1,7 @@
 #!/usr/bin/env python3
 """Every routine that others call keeps its promise on paper: it has no `requires`, it has an `ensures`, and
-docs/PROMISES.md has a row for it. Prints each that does not, and ends with 1 if there is one."""
+docs/PROMISES.md has a row for it, whose definition and must-fail edits are there. Prints each that does not, and ends
+with 1 if there is one."""
 import pathlib
 import re
 import sys
@@ -35,9 +36,29 @@ def called_from_outside(crate):
                 yield source, number + 1, name, contract(lines, number)
 
 
+def names_cited(page):
+    """(routine, its definitions, its edits) of each row."""
+    for row in re.findall(r"^\| `\w+::\w+` \|.*\|$", page, re.M):
+        cells = row.strip("|").split(" | ")
+        yield cells[0].strip(" `"), re.findall(r"`([^`]+)`", cells[2]), re.findall(r"`([^`]+)`", cells[-1])
+
+
+def faults_of_names(page):
+    """What a row cites and the crates do not have."""
+    written = "".join(path.read_text() for path in ROOT.glob("crates/*/specs/*.antt"))
+    for routine, definitions, edits in names_cited(page):
+        for name in definitions:
+            if not re.search(rf"(?:^| ){re.escape(name)}(?: |$)", written, re.M):
+                yield f"docs/PROMISES.md: {routine} cites the definition {name}, which no specs/ has"
+        for name in edits:
+            if not (ROOT / "crates" / routine.split("::")[0] / "must-fail" / f"{name}.edit").exists():
+                yield f"docs/PROMISES.md: {routine} cites the edit {name}, which its crate does not have"
+
+
 def main():
-    rows = re.findall(r"^\| `(\w+)::(\w+)`", PAGE.read_text(), re.M)
-    faults, seen = [], set()
+    page = PAGE.read_text()
+    rows = re.findall(r"^\| `(\w+)::(\w+)`", page, re.M)
+    faults, seen = list(faults_of_names(page)), set()
     for crate in sorted((ROOT / "crates").iterdir()):
         if not (crate / "src" / "lib.rt").exists():
             continue
