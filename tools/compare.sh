@@ -22,6 +22,7 @@ python3 tools/make_sample.py --check
 python3 tools/listing_runs.py
 
 echo "stored requests"
+python3 tools/stored.py --check
 "$second" desk <crates/desk/stdin >"$room/stored"
 python3 second/compare.py crates/desk/stdout "$room/stored" crates/desk/stdin
 
