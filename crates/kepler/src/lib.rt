@@ -4,11 +4,15 @@ use conic::Orbit;
 use conic::Point;
 use conic::Trial;
 use iterator::Judgement;
-use vector::Fault;
+use table::Entry;
+use table::Limit;
+use table::Name;
+use table::Part;
+use table::Test;
 use vector::State;
-use vector::Test;
 use vector::Vector;
 ghost use mathlib.Core.Path.{_≡_};
+ghost use Rattle.table.specs.Tests.{_▷_, firstFailing};
 ghost use Rattle.kepler.specs.Kepler.{turnedOf, motionOf, derivedRow, keplerTests, trialAt, keplerJudge, r2Of, v2Of, resultRow, arrivedOf, arrivalOf};
 
 // What the trials of one solve share: the orbit's numbers, and α.
@@ -20,7 +24,7 @@ pub struct Motion {
 // The state at a grid point, or what takes it out of range.
 pub enum Arrival {
     At(State),
-    Out(Fault),
+    Out(Entry),
 }
 
 // The state with its velocity negated if t is negative: before the solve, and again after it.
@@ -48,23 +52,24 @@ pub fn motion_of(mu: f64, s: State) -> Motion
 }
 
 // Row 6: |c1| < 2^17, then |c2| < 2^6.
-fn derived_row(o: Orbit) -> Test
-    ensures { λ r. ⌜ r ≡ derivedRow o ⌝ }
+fn derived_row(t: Test, o: Orbit) -> Test
+    ensures { λ r. ⌜ r ≡ t ▷ derivedRow o ⌝ }
 {
-    let c1 = vector::holds(real::size(o.c1) < 131072.0, 6, 0, 0, o.c1);
-    vector::first(c1, conic::c2_row(1, o.c2))
+    let c1 = table::size_under(t, 6, Name::C1, Part::Whole, o.c1, 131072.0);
+    conic::c2_row(c1, o.c2)
 }
 
 // Rows 1 to 6, ahead of the first trial.
 pub fn tests(mu: f64, s: State, t: f64, m: Motion) -> Test
-    ensures { λ r. ⌜ r ≡ keplerTests mu s t m ⌝ }
+    ensures { λ r. ⌜ r ≡ firstFailing (keplerTests mu s t m) ⌝ }
 {
     let o = m.orbit;
-    let inputs = vector::finite_inputs(mu, vector::position(s), vector::velocity(s));
-    let a = vector::first(inputs, vector::finite_number(3, t));
-    let b = vector::first(a, vector::state_rows(mu, s, o.r1));
-    let c = vector::first(b, vector::time_row(3, t));
-    vector::first(c, derived_row(o))
+    let r = vector::position(s);
+    let v = vector::velocity(s);
+    let a = rows::finite_inputs(mu, Name::Position, r, Name::Velocity, v);
+    let b = rows::finite_number(a, Name::Time, t);
+    let c = rows::state_rows(b, mu, s, o.r1);
+    derived_row(rows::time_row(c, t), o)
 }
 
 // The trial at grid point n.
@@ -111,11 +116,11 @@ fn velocity_at(o: Orbit, s: State, p: Point, r2: f64) -> Vector
 
 // Row 9, of the position, the velocity, and the position's length.
 fn result_row(r: Vector, v: Vector, length: f64) -> Test
-    ensures { λ t. ⌜ t ≡ resultRow r v length ⌝ }
+    ensures { λ t. ⌜ t ≡ firstFailing (resultRow r v length) ⌝ }
 {
-    let a = vector::position_components(9, 0, r);
-    let b = vector::first(a, vector::velocity_components(9, 1, v));
-    vector::first(b, vector::holds(0.0 < length, 9, 0, 3, length))
+    let a = rows::position_components(Test::Passed, 9, Name::Position, r);
+    let b = rows::velocity_components(a, 9, Name::Velocity, v);
+    table::over(b, 9, Name::Position, Part::Length, length, 0.0)
 }
 
 fn arrived(o: Orbit, s: State, p: Point) -> Arrival
@@ -126,7 +131,7 @@ fn arrived(o: Orbit, s: State, p: Point) -> Arrival
     let v = velocity_at(o, s, p, length);
     match result_row(r, v, length) {
         Test::Passed => Arrival::At(vector::state_of(r, v)),
-        Test::Failed(f) => Arrival::Out(f),
+        Test::Failed(e) => Arrival::Out(e),
     }
 }
 
@@ -137,11 +142,12 @@ pub fn arrive(m: Motion, s: State, n: i64) -> Arrival
     let o = m.orbit;
     match trial_at(m, n) {
         Trial::At(p) => arrived(o, s, p),
-        Trial::Out => Arrival::Out(Fault {
+        Trial::Out => Arrival::Out(Entry {
             number: 9,
-            input: 2,
-            part: 0,
+            name: Name::X,
+            part: Part::Whole,
             amount: conic::grid(n),
+            limit: Limit::Finite,
         }),
     }
 }

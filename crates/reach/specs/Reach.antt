@@ -3,11 +3,14 @@ use Prim.Native.Nat.{ℕ, zero, suc}
 use mathlib.Core.Bool.{cond, not, _&&_}
 use mathlib.Core.List.{List, [], _∷_}
 use lib.Ieee.{Float}
-use Rattle.real.specs.F64.{_⊕_, _⊖_, _⊗_, _⊘_, _≤ᶠ_, _<ᶠ_, bits, two^, f0, f1, f3, sizeOf}
+use Rattle.real.specs.F64.{_⊕_, _⊖_, _⊗_, _⊘_, _≤ᶠ_, _<ᶠ_, bits, two^, f0, f1, f3}
 use Rattle.root.specs.Root.{rootOf}
 use Rattle.series.specs.Series.{leastXi, mostXi}
-use Rattle.vector.specs.declared.rows.Test.{Test}
-use Rattle.vector.specs.Rows.{holdsOf}
+use Rattle.table.specs.declared.Name.the-variants.{Cothalf}
+use Rattle.table.specs.declared.Part.the-variants.{Whole}
+use Rattle.table.specs.declared.Limit.the-variants.{SizeAtMost}
+use Rattle.table.specs.declared.Entry.{Entry}
+use Rattle.table.specs.Tests.{entry}
 use Rattle.conic.specs.declared.Orbit.{Orbit}
 use Rattle.conic.specs.declared.Trial.{Trial}
 use Rattle.conic.specs.declared.Trial.the-variants.{At, Out}
@@ -21,8 +24,8 @@ use Rattle.reach.specs.declared.Reached.the-variants.{Time, Under, Over}
 abbrev pub cothalfOf : Float → Float → Float
 cothalfOf sin cos = sin ⊘ (f1 ⊖ cos)
 
-abbrev pub cothalfRow : ℕ → Float → Test
-cothalfRow input cothalf = holdsOf (sizeOf cothalf ≤ᶠ two^ 5) 6 input 0 cothalf
+abbrev pub cothalfRow : Float → List Entry
+cothalfRow cothalf = entry 6 Cothalf Whole cothalf (SizeAtMost (two^ 5)) ∷ []
 
 -- 2k+1 for k = 0 to 7, and 17
 abbrev pub odds : List Float

@@ -1,9 +1,12 @@
 // Steps 4 to 7 of Lambert, which Time-Theta shares: from p, cot γ and α_N to the time.
 use conic::Orbit;
 use conic::Trial;
-use vector::Test;
+use table::Name;
+use table::Part;
+use table::Test;
 ghost use mathlib.Core.Path.{_≡_};
 ghost use lib.ListN.{length};
+ghost use Rattle.table.specs.Tests.{_▷_};
 ghost use Rattle.reach.specs.Reach.{cothalfOf, cothalfRow, gNest, gOf, timeAt, endedAt, replacedOf, reachOf};
 
 const ODDS: [f64; 8] = [1.0, 3.0, 5.0, 7.0, 9.0, 11.0, 13.0, 15.0];
@@ -33,10 +36,10 @@ pub fn cothalf(sin: f64, cos: f64) -> f64
 }
 
 // Row 6 for cothalf: at most 2^5 in size.
-pub fn cothalf_row(input: u32, cothalf: f64) -> Test
-    ensures { λ r. ⌜ r ≡ cothalfRow input cothalf ⌝ }
+pub fn cothalf_row(t: Test, cothalf: f64) -> Test
+    ensures { λ r. ⌜ r ≡ t ▷ cothalfRow cothalf ⌝ }
 {
-    vector::holds(real::size(cothalf) <= 32.0, 6, input, 0, cothalf)
+    table::size_at_most(t, 6, Name::Cothalf, Part::Whole, cothalf, 32.0)
 }
 
 // g starts at 1/17, and the odd numbers are walked from last to first.

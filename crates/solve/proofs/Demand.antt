@@ -11,8 +11,8 @@ use lib.Ieee.{Float}
 use Rattle.real.specs.F64.{_≤ᶠ_, _<ᶠ_, sizeOf}
 use Rattle.vector.specs.declared.Vector.{Vector}
 use Rattle.vector.specs.declared.State.{State}
-use Rattle.vector.specs.declared.rows.Test.{Test}
-use Rattle.vector.specs.declared.rows.Test.the-variants.{Passed, Failed}
+use Rattle.table.specs.declared.Test.{Test}
+use Rattle.table.specs.declared.Test.the-variants.{Passed, Failed}
 use Rattle.iterator.specs.Run.{trials}
 use Rattle.iterator.specs.Single.{agrees}
 use Rattle.iterator.specs.declared.Judgement.{Judgement}
@@ -21,6 +21,7 @@ use Rattle.iterator.specs.declared.Bracket.{Bracket}
 use Rattle.kepler.specs.declared.Motion.{Motion}
 use Rattle.kepler.specs.declared.Arrival.{Arrival}
 use Rattle.kepler.specs.declared.Arrival.the-variants.{At, Out}
+use Rattle.table.specs.Tests.{firstFailing}
 use Rattle.kepler.specs.Kepler.{turnedOf, keplerTests, arrivalOf}
 use Rattle.lambert.specs.declared.Way.{Way}
 use Rattle.lambert.specs.declared.Transfer.{Transfer}
@@ -127,7 +128,7 @@ unfolding foundAs
 arrived t x y (At s) z e = record { state = s; at = refl; turned = cc; same = cc }
 arrived t x y (Out f) z e = let n : _≡_ {A = ℕ} 0 1 = cc in absurd (zero-one n)
 
-module _ (mu : Float) (s : State) (t : Float) (passed : keplerTests mu s t (motionFor mu s t) ≡ Passed) (z : State) (x : Solution) where
+module _ (mu : Float) (s : State) (t : Float) (passed : firstFailing (keplerTests mu s t (motionFor mu s t)) ≡ Passed) (z : State) (x : Solution) where
   abbrev m : Motion
   m = motionFor mu s t
 
@@ -165,7 +166,7 @@ module _ (mu : Float) (s : State) (t : Float) (passed : keplerTests mu s t (moti
 pub record Moved (mu : Float) (first second : Vector) (way : Way) (t : Float) (v : Vector) (x : Solution) : Type 0 where
   pub met : Met (Lambert (transferOf mu first second way)) t t x
   pub velocity : v ≡ velocityOf (transferOf mu first second way) (x .n)
-  pub in-range : resultRow v ≡ Passed
+  pub in-range : firstFailing (resultRow v) ≡ Passed
 
 record Went (x y : Solution) (v w : Vector) (r : Test) : Type 0 where
   passes : r ≡ Passed
@@ -178,7 +179,7 @@ went x y v w Passed e = record { passes = refl; velocity = cc; same = cc }
 went x y v w (Failed f) e = let n : _≡_ {A = ℕ} 0 1 = cc in absurd (zero-one n)
 
 module _ (mu : Float) (first second : Vector) (way : Way) (t : Float)
-    (passed : lambertTests mu first second t (transferOf mu first second way) ≡ Passed) (v : Vector) (x : Solution) where
+    (passed : firstFailing (lambertTests mu first second t (transferOf mu first second way)) ≡ Passed) (v : Vector) (x : Solution) where
   abbrev d : Transfer
   d = transferOf mu first second way
 
@@ -192,11 +193,11 @@ module _ (mu : Float) (first second : Vector) (way : Way) (t : Float)
     where
       go : (o : Outcome) → outcomeOf (Lambert d) t t ≡ o → movedAs d o ≡ Tr.Found v x → Moved mu first second way t v x
       go (O.Met y) k h =
-          let w = went x y v (velocityOf d (y .n)) (resultRow (velocityOf d (y .n))) h in
+          let w = went x y v (velocityOf d (y .n)) (firstFailing (resultRow (velocityOf d (y .n)))) h in
           record {
             met = met (Lambert d) t t (lambert-asked mu first second t d passed) x (k ∙ ap O.Met (sym (w .same)));
             velocity = w .velocity ∙ ap (λ (q : Solution). velocityOf d (q .n)) (sym (w .same));
-            in-range = ap resultRow (w .velocity) ∙ w .passes;
+            in-range = ap (λ (u : Vector). firstFailing (resultRow u)) (w .velocity) ∙ w .passes;
           }
       go O.TooLong k h = let n : _≡_ {A = ℕ} 0 1 = cc in absurd (zero-one n)
       go O.TooShort k h = let n : _≡_ {A = ℕ} 0 1 = cc in absurd (zero-one n)
@@ -206,5 +207,5 @@ module _ (mu : Float) (first second : Vector) (way : Way) (t : Float)
   result-transfer r =
       onward
       ∙ ap (λ (o : Outcome). movedAs d o) (met-back (Lambert d) t t (lambert-asked mu first second t d passed) x (r .met))
-      ∙ ap (λ (p : Test). movedBy p (velocityOf d (x .n)) x) (ap resultRow (sym (r .velocity)) ∙ r .in-range)
+      ∙ ap (λ (p : Test). movedBy p (velocityOf d (x .n)) x) (ap (λ (u : Vector). firstFailing (resultRow u)) (sym (r .velocity)) ∙ r .in-range)
       ∙ ap (λ (w : Vector). Tr.Found w x) (sym (r .velocity))

@@ -5,14 +5,15 @@ use lib.Ieee.{Float}
 use Rattle.real.specs.F64.{_⊖_, _⊗_, _≤ᶠ_, two^-, sizeOf}
 use Rattle.vector.specs.declared.Vector.{Vector}
 use Rattle.vector.specs.declared.State.{State}
-use Rattle.vector.specs.declared.rows.Test.{Test}
-use Rattle.vector.specs.declared.rows.Test.the-variants.{Passed, Failed}
+use Rattle.table.specs.declared.Test.{Test}
+use Rattle.table.specs.declared.Test.the-variants.{Passed, Failed}
 use Rattle.iterator.specs.declared.Judgement.{Judgement}
 use Rattle.iterator.specs.declared.Judgement.the-variants.{Low, High, Under, Over}
 use Rattle.iterator.specs.declared.Bracket.{Bracket}
 use Rattle.kepler.specs.declared.Motion.{Motion}
 use Rattle.kepler.specs.declared.Arrival.{Arrival}
 use Rattle.kepler.specs.declared.Arrival.the-variants.{At, Out}
+use Rattle.table.specs.Tests.{firstFailing}
 use Rattle.kepler.specs.Kepler.{turnedOf, motionOf, keplerTests, arrivalOf}
 use Rattle.lambert.specs.declared.Way.{Way}
 use Rattle.lambert.specs.declared.Transfer.{Transfer}
@@ -74,7 +75,7 @@ abbrev pub motionFor : Float → State → Float → Motion
 motionFor mu s t = motionOf mu (turnedOf t s)
 
 abbrev pub advanceOf : Float → State → Float → Advanced
-advanceOf mu s t = advancedBy (keplerTests mu s t (motionFor mu s t)) (motionFor mu s t) (turnedOf t s) t (sizeOf t)
+advanceOf mu s t = advancedBy (firstFailing (keplerTests mu s t (motionFor mu s t))) (motionFor mu s t) (turnedOf t s) t (sizeOf t)
 
 -- 9 for a velocity out of range
 unfoldable pub movedBy : Test → Vector → Solution → Transferred
@@ -82,7 +83,7 @@ movedBy Passed v x = Tr.Found v x
 movedBy (Failed f) v x = Tr.Refused (f .number)
 
 unfoldable pub movedAs : Transfer → Outcome → Transferred
-movedAs d (O.Met x) = movedBy (resultRow (velocityOf d (x .n))) (velocityOf d (x .n)) x
+movedAs d (O.Met x) = movedBy (firstFailing (resultRow (velocityOf d (x .n)))) (velocityOf d (x .n)) x
 movedAs d O.TooLong = Tr.TooLong
 movedAs d O.TooShort = Tr.TooShort
 
@@ -92,7 +93,7 @@ transferredBy (Failed f) d asked = Tr.Refused (f .number)
 
 abbrev pub transferVelocityOf : Float → Vector → Vector → Way → Float → Transferred
 transferVelocityOf mu first second way t =
-    transferredBy (lambertTests mu first second t (transferOf mu first second way)) (transferOf mu first second way) t
+    transferredBy (firstFailing (lambertTests mu first second t (transferOf mu first second way))) (transferOf mu first second way) t
 
 -- 01's numbers of the cases, and 0 for an answer
 unfoldable pub advancedNumber : Advanced → ℕ

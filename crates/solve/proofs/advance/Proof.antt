@@ -4,7 +4,8 @@ use borrow.Author.Needs.{needs}
 use lib.Ieee.{Float}
 use Rattle.real.specs.F64.{sizeOf}
 use Rattle.vector.specs.declared.State.{State}
-use Rattle.vector.specs.declared.rows.Test.{Test}
+use Rattle.table.specs.declared.Test.{Test}
+use Rattle.table.specs.Tests.{firstFailing}
 use Rattle.kepler.specs.declared.Motion.{Motion}
 use Rattle.kepler.specs.Kepler.{turnedOf, motionOf, keplerTests}
 use Rattle.solve.specs.Answers.{outcomeOf, arrivedAs, motionFor, advancedBy}
@@ -36,10 +37,10 @@ enum-told c = search needs
 motion : (c : tie.After-motion-of) → let a = c .before .before .before .args in c .motion-of .result ≡ motionFor (a .mu) (a .s) (a .t)
 motion c = c .motion-of .ensures ∙ ap (motionOf (c .before .before .before .args .mu)) (c .before .turned .ensures)
 
-tested : (c : tie.After-tests) → let a = c .before .before .before .before .args in c .tests .result ≡ keplerTests (a .mu) (a .s) (a .t) (motionFor (a .mu) (a .s) (a .t))
+tested : (c : tie.After-tests) → let a = c .before .before .before .before .args in c .tests .result ≡ firstFailing (keplerTests (a .mu) (a .s) (a .t) (motionFor (a .mu) (a .s) (a .t)))
 tested c =
     let a = c .before .before .before .before .args in
-    c .tests .ensures ∙ ap (λ (m : Motion). keplerTests (a .mu) (a .s) (a .t) m) (motion (c .before))
+    c .tests .ensures ∙ ap (λ (m : Motion). firstFailing (keplerTests (a .mu) (a .s) (a .t) m)) (motion (c .before))
 
 solved-requires : tie.Need-solved-requires
 solved-requires c κs =
