@@ -1,6 +1,6 @@
 -- A list of tests: the one that is told fails and those ahead of it are met; none is told where all are met; its number is that of
 -- the first row that applies. Once for every list. Assumes nothing.
-use Prim.Native.Nat.{ℕ}
+use Prim.Native.Nat.{ℕ, zero, suc}
 use native.Mathlib.Omega.{arith}
 use mathlib.Core.Path.{_≡_, refl, sym, ap, _∙_, subst}
 use mathlib.Core.Bool.{Bool, true, false, cond, not, _&&_, _||_, false≢true, and-assoc}
@@ -171,3 +171,14 @@ met-left xs ys h = and-0 (allMeet xs) (allMeet ys) (sym (meet-both xs ys) ∙ h)
 
 pub met-right : (xs ys : List Entry) → allMeet (xs ++ ys) ≡ true → allMeet ys ≡ true
 met-right xs ys h = and-1 (allMeet xs) (allMeet ys) (sym (meet-both xs ys) ∙ h)
+
+-- the k-th entry, counted from 0, is met
+abbrev pub MetAt : ℕ → List Entry → Type 0
+MetAt k [] = Prim.Unit
+MetAt zero (e ∷ es) = meets e ≡ true
+MetAt (suc k) (e ∷ es) = MetAt k es
+
+pub met-at : (k : ℕ) (es : List Entry) → allMeet es ≡ true → MetAt k es
+met-at k [] h = tt
+met-at zero (e ∷ es) h = and-0 (meets e) (allMeet es) h
+met-at (suc k) (e ∷ es) h = met-at k es (and-1 (meets e) (allMeet es) h)
