@@ -61,7 +61,7 @@ python3 tools/promises.py
 if [ ${#crates[@]} -gt 0 ]; then
     say "changed: ${crates[*]}; on them stand ${#above[@]} crates, themselves among them"
     lock
-    rt check "${above[@]}" | grep -E '^rt: |error'
+    rt check "${above[@]}" | grep -E '^rt: |error' | grep -v 'unchanged since'
     try_edits "${crates[@]}"
     unlock
 else

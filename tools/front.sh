@@ -14,14 +14,15 @@ trap 'status=$?; rm -rf "${clean[@]}"; [ "$status" -eq 0 ] || exit "$failure"' E
 # A write that fails is then an error like any other, and told as such.
 trap '' PIPE XFSZ
 
-say() { printf 'cabin: %s\n' "$*" >&2; }
+say() { printf 'cabin: %s\n' "$*" >&2 || true; }
 fail() { say "$*"; exit 2; }
 refuse() { say "$*"; failure=1; exit 1; }
 
-# A closed stream would be given to the next file that is opened, so none stays closed.
+# A closed stream would be given to the next file that is opened, so none stays closed. (Bash itself puts the script in
+# the place of a closed standard error.)
 open_streams() {
     has_input=1
-    { true 3>&2; } || exec 2>/dev/null
+    { true 3>&2; } && [ ! /dev/fd/2 -ef "$0" ] || exec 2>/dev/null
     { true 3<&0; } 2>/dev/null || { has_input=0; exec </dev/null; }
     { true 3>&1; } 2>/dev/null || fail "standard output is closed: there is nowhere to write"
 }
