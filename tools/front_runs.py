@@ -62,7 +62,7 @@ def front(*words, home=ROOT, given=b"", limit=None, nobody=False, closed=(), **m
     more.setdefault("stdout", subprocess.PIPE)
     if "stdin" not in more:
         more["input"] = given
-    ran = subprocess.run([home / "cabin", *words], stderr=subprocess.PIPE, preexec_fn=child, timeout=120, **more)
+    ran = subprocess.run([home / "cabin", *words], stderr=subprocess.PIPE, preexec_fn=child, timeout=60, **more)
     return ran.returncode, ran.stdout, ran.stderr.decode()
 
 
@@ -413,7 +413,7 @@ def main():
     for name, function in CASES:
         try:
             function()
-        except AssertionError as fault:
+        except (AssertionError, subprocess.TimeoutExpired) as fault:
             faults += 1
             print(f"{name}: {fault}")
     print(f"{len(CASES)} cases of the front, {faults} wrong")
