@@ -58,6 +58,7 @@ above=()
 
 rt fmt --check || fail "the layout is not rt fmt's: run rt fmt"
 python3 tools/promises.py
+python3 tools/rules.py
 if [ ${#crates[@]} -gt 0 ]; then
     say "changed: ${crates[*]}; on them stand ${#above[@]} crates, themselves among them"
     lock
@@ -69,6 +70,7 @@ else
 fi
 if [[ " ${above[*]} " == *" desk "* ]] || grep -q '^second/' <<<"$files"; then
     bash tools/compare.sh stored
+    python3 tools/published.py
 fi
 python3 tools/pages.py
 say "all of it holds; the gate for landing is ./cabin test"

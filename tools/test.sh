@@ -37,8 +37,10 @@ need_kit
 need python3 python3
 part "layout" rt fmt --check
 part "promises" python3 tools/promises.py
+part "rules" python3 tools/rules.py
 proofs
 part "pages" python3 tools/pages.py
+part "published cases" python3 tools/published.py
 part "sample" python3 tools/make_sample.py --check
 part "the listing, on whole, cut, damaged and over-long sessions" python3 tools/listing_runs.py
 part "the front, where things go wrong" python3 tools/front_runs.py
