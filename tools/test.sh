@@ -18,7 +18,8 @@ part() { # NAME COMMAND..
     fi
 }
 
-# From nothing, with the prover's own count; its lines are printed as they come, and the count is kept for the end.
+# From nothing, with the prover's own count; its lines are printed as they come, and the count is kept for the end. What
+# was proved is made ready, and from then on nothing is built: a part that lacks its program fails at once.
 proofs() {
     local log=$keep/gate.log
     printf '\n== proofs, must-fail edits, programs\n'
@@ -31,6 +32,10 @@ proofs() {
     else
         failed=$((failed + 1)) wrong+=("proofs, which gave no count")
     fi
+    for main in crates/*/src/main.rt; do
+        ./cabin ready "$(basename "${main%/src/main.rt}")" || true
+    done
+    export CABIN_BUILD=no
 }
 
 need_kit
