@@ -33,7 +33,7 @@ open_streams() {
 need() { # COMMAND PACKAGE..
     command -v "$1" >/dev/null && return
     say "there is no command '$1' on this machine: installing ${*:2} by apt-get"
-    { apt-get update && apt-get install -y "${@:2}"; } >&2 ||
+    { apt-get update && apt-get install -y "${@:2}"; } >&2 </dev/null ||
         fail "it could not be installed: install ${*:2} by hand, then try again"
 }
 
@@ -114,7 +114,7 @@ ready() { # NAME
     lock
     while made=$(digest "$1"); program[$1]=$keep/$1-$made; [ ! -x "${program[$1]}" ]; do
         say "proving and building '$1' (once; a few minutes)"
-        (cd "$home" && rt check "$1") 2>&1 | tee "$log" | progress "$(related below "$1" | wc -l)" ||
+        (cd "$home" && rt check "$1") 2>&1 </dev/null | tee "$log" | progress "$(related below "$1" | wc -l)" ||
             fail "'$1' could not be built: the end of $log says why"
         [ "$(digest "$1")" = "$made" ] || { say "a file of '$1' changed meanwhile"; continue; }
         find "$keep" -name "$1-*" -mmin +60 -delete

@@ -33,6 +33,7 @@ fmt) exit 0 ;;
 ci) rm -rf target; . "$STUB/ci" ;;
 check)
     echo "start $2" >>"$STUB/runs"
+    cat >/dev/null
     [ ! -f "$STUB/hook" ] || . "$STUB/hook"
     mkdir -p target/bin && cp "$STUB/$2" "target/bin/$2" || exit 2
     echo "rt: $2 proved (0 s)"
@@ -295,6 +296,12 @@ def _():
 
 
 # ---- building
+
+@case("a first use from standard input: what builds does not read the session")
+def _():
+    with Room() as room:
+        hold(room.front("list", given=sample()), 0, WHOLE)
+
 
 @case("two first uses at once: one builds, the other waits, both list")
 def _():
