@@ -10,14 +10,14 @@ ROOT = pathlib.Path(__file__).resolve().parent.parent
 PAGES = ROOT / "docs" / "pages"
 CABIN = ROOT / "cabin"
 
-# page: where its definitions give a refusal its number, and how it is written there
-ROWS = r"^  table = (.*)$"
+# page: where its definitions give a refusal its number, and how it is written there; TESTS is a routine's list of tests
+TESTS = r"\w+Tests"
 REFUSED = r"\b(?:Refused|Bad) (\d+)"
 CASES = {
-    "advance": [("kepler/proofs/Laws", ROWS), ("kepler/specs/Kepler", r"^resultRow .*= positionComponents (9)"), ("solve/specs/Answers", r"^advancedNumber \S+ = ([78])")],
-    "transfer-velocity": [("lambert/proofs/Laws", ROWS), ("lambert/specs/Lambert", r"^resultRow .*= velocityComponents (9)"), ("solve/specs/Answers", r"^transferredNumber \S+ = ([78])")],
-    "transfer-time": [("theta/proofs/Laws", ROWS), ("theta/specs/Theta", r"^numberOf Too\w+ = ([78])")],
-    "apsides": [("apsides/proofs/Laws", ROWS)],
+    "advance": [("kepler/specs/Kepler", TESTS), ("kepler/specs/Kepler", r"^resultRow .*= positionComponents (9)"), ("solve/specs/Answers", r"^advancedNumber \S+ = ([78])")],
+    "transfer-velocity": [("lambert/specs/Lambert", TESTS), ("lambert/specs/Lambert", r"^resultRow .*= velocityComponents (9)"), ("solve/specs/Answers", r"^transferredNumber \S+ = ([78])")],
+    "transfer-time": [("theta/specs/Theta", TESTS), ("theta/specs/Theta", r"^numberOf Too\w+ = ([78])")],
+    "apsides": [("apsides/specs/Apsides", TESTS)],
     "root": [("root/specs/Root", REFUSED)],
     "series": [("series/specs/Series", REFUSED)],
     "trial": [("iterator/specs/Single", REFUSED)],
@@ -26,12 +26,32 @@ CASES = {
 }
 
 
+def definitions_in(name):
+    """name -> text, of each list of tests that a file of specs/ defines."""
+    text = (ROOT / "crates" / f"{name}.antt").read_text()
+    return {m[1]: m[2] for m in re.finditer(r"^abbrev pub (\w+) : [^\n]*List Entry\n(.*?)(?=\n\n|\Z)", text, re.M | re.S)}
+
+
+def rows_of(name):
+    """The rows of a routine's list of tests, and of the lists that it is joined of."""
+    own = definitions_in(name)
+    known = {**definitions_in("rows/specs/Rows"), **definitions_in("conic/specs/Conic"), **definitions_in("reach/specs/Reach"), **own}
+    left, seen, rows = [n for n in own if re.fullmatch(TESTS, n)], set(), set()
+    while left:
+        one = left.pop()
+        seen.add(one)
+        rows.update(re.findall(r"\b(?:entry|\w+Components) (\d+)", known[one]))
+        left += [n for n in re.findall(r"\w+", known[one]) if n in known and n not in seen]
+    return rows
+
+
 def numbers_defined(page):
     found = set()
     for name, pattern in CASES[page]:
-        text = (ROOT / "crates" / f"{name}.antt").read_text()
-        for hit in re.findall(pattern, text, re.M):
-            found.update(re.findall(r"row (\d+)", hit) if "row" in hit else [hit])
+        if pattern is TESTS:
+            found |= rows_of(name)
+        else:
+            found.update(re.findall(pattern, (ROOT / "crates" / f"{name}.antt").read_text(), re.M))
     return found
 
 

@@ -1,31 +1,38 @@
--- The refusal number of the apsides is the first row's that applies, and 1 where an input is infinite or not a number; no answer holds a NaN.
+-- The refusal number of the apsides is the first row's that applies, and 1 where an input is infinite or not a number; a reason that is
+-- told is true; no answer holds a NaN.
 -- Assumes nothing.
 use Prim.Native.Nat.{ℕ, zero, suc, _+_, _-_, _*_, _≤_, _<_}
 use native.Mathlib.Omega.{arith}
 use mathlib.Core.Path.{_≡_, refl, sym, ap, _∙_, subst}
 use mathlib.Core.Bool.{Bool, true, false, cond, _&&_, false≢true}
-use mathlib.Core.List.{List, [], _∷_}
+use mathlib.Core.List.{List, _++_}
 use lib.IntN.{pos}
 use lib.Dec.{T, ltb, ltb→lt, lit≤, eqb, eqb→eq, eqb·suc-zero}
 use lib.Ieee as Ieee
 use lib.Ieee.{Float, nan, inf, fin, binary64, up, down, round, isNan, ofBits}
 use lib.Ieee.Fits.{down-pos, and-l}
 use lib.Ieee.Order.{round-mono}
-use Rattle.real.specs.F64.{_⊕_, _⊖_, _⊗_, _⊘_, _≤ᶠ_, _<ᶠ_, two^, f0, f1, finite}
+use Rattle.real.specs.F64.{_⊕_, _⊖_, _⊗_, _⊘_, _≤ᶠ_, _<ᶠ_, two^, f0, f1, finite, sizeOf}
 use Rattle.real.proofs.Bounds.{Within, within-finite, add-within, round-no-nan, or-cases}
 use Rattle.root.proofs.Sign.{NotBelow, root-not-below}
 use Rattle.vector.specs.declared.State.{State}
-use Rattle.vector.specs.declared.rows.Test.{Test}
-use Rattle.vector.specs.declared.rows.Test.the-variants.{Passed, Failed}
+use Rattle.table.specs.declared.Test.{Test}
+use Rattle.table.specs.declared.Test.the-variants.{Passed, Failed}
 use Rattle.vector.specs.Vectors.{positionOf, velocityOf}
-use Rattle.vector.specs.Rows as Rows
-use Rattle.vector.specs.Rows.{_▷_, Row, passes, row, firstOf, finiteInputs, muRow, positionRow, velocityComponents}
-use Rattle.vector.proofs.Table.{Numbered, holds-numbered, both-numbered, then-assoc, then-passed, chainOf, AllNumbered, chain-number, finite-inputs, position-row, velocity-components, passes-left, passes-right, held}
-use Rattle.vector.proofs.Inputs.{allFinite, inputs-finite}
+use Rattle.table.specs.declared.Name.the-variants.{Position, Velocity}
+use Rattle.table.specs.declared.Entry.{Entry}
+use Rattle.table.specs.Tests as Tests
+use Rattle.table.specs.Tests.{firstFailing, allMeet, firstRow, tableOrder}
+use Rattle.rows.specs.Rows.{finiteInputs, stateRows}
+use Rattle.table.proofs.Laws.{reason, all-met, met-right, first-row, row-then}
+use Rattle.real.proofs.Tests.{and-0, and-1}
+use Rattle.rows.proofs.Inputs.{allFinite, inputs-finite}
 use Rattle.apsides.specs.declared.Shape.{Shape}
 use Rattle.apsides.specs.declared.Apsides.{Apsides}
 use Rattle.apsides.specs.declared.Apsides.the-variants.{Closed, Open, Refused}
-use Rattle.apsides.specs.Apsides.{radicandOf, shapeOf, derivedRow, apsidesTests, distancesOf, answered, apsidesOf}
+use Rattle.apsides.specs.declared.Why.{Why}
+use Rattle.apsides.specs.declared.Why.the-variants as Why
+use Rattle.apsides.specs.Apsides.{radicandOf, shapeOf, derivedRow, apsidesTests, distancesOf, answered, apsidesOf, numberOf, whyBy, whyOf, whyNumber, Explains}
 
 -- ---- 1 + e is finite and 1 or more, for an e under 2^3 that is not below zero
 
@@ -95,56 +102,58 @@ dividend nan y h = h
 dividend (inf s) y h = refl
 dividend (fin s m e) y h = refl
 
--- ---- the table
+-- ---- the answer's number
 
-derived-numbered : (d : Shape) → Numbered 6 (derivedRow d)
-derived-numbered d =
-    both-numbered 6 _ _ (both-numbered 6 _ _ (holds-numbered _ 6 0 0 (d .c2)) (holds-numbered _ 6 1 0 (d .pn))) (holds-numbered _ 6 2 0 (d .e))
+distances-number : (d : Shape) → numberOf (distancesOf d) ≡ 0
+unfolding distancesOf numberOf
+distances-number d = go (f0 <ᶠ d .alpha && f0 <ᶠ f1 ⊖ d .e && d .p ⊘ (f1 ⊖ d .e) <ᶠ two^ 29)
+  where
+    go : (b : Bool) → numberOf (cond b (Closed (d .p ⊘ (f1 ⊕ d .e)) (d .p ⊘ (f1 ⊖ d .e))) (Open (d .p ⊘ (f1 ⊕ d .e)))) ≡ 0
+    go true = refl
+    go false = refl
 
-module _ (mu : Float) (s : State) (d : Shape) where
-  abbrev A : Test
-  A = finiteInputs mu (positionOf s) (velocityOf s)
+answered-number : (t : Test) (d : Shape) → numberOf (answered t d) ≡ Tests.numberOf t
+unfolding answered numberOf Tests.numberOf
+answered-number Passed d = distances-number d
+answered-number (Failed e) d = refl
 
-  abbrev M : Test
-  M = muRow mu
+module _ (mu : Float) (s : State) where
+  abbrev tests : List Entry
+  tests = apsidesTests mu s (shapeOf mu s)
 
-  abbrev P : Test
-  P = positionRow 1 (positionOf s) (d .r1)
-
-  abbrev W : Test
-  W = velocityComponents 4 2 (velocityOf s)
-
-  abbrev D : Test
-  D = derivedRow d
-
-  -- the rows in the order of the table
-  abbrev table : List Row
-  table = row 1 A ∷ row 2 M ∷ row 3 P ∷ row 4 W ∷ row 6 D ∷ []
-
-  in-a-row : apsidesTests mu s d ≡ chainOf table
-  in-a-row =
-      then-assoc A (M ▷ P ▷ W) D
-      ∙ ap (λ (x : Test). A ▷ x) (then-assoc (M ▷ P) W D ∙ then-assoc M P (W ▷ D))
-      ∙ ap (λ (x : Test). A ▷ (M ▷ (P ▷ (W ▷ x)))) (sym (then-passed D))
-
-  numbered : AllNumbered table
-  numbered = (
-    finite-inputs mu (positionOf s) (velocityOf s),
-    (
-      holds-numbered _ 2 0 0 mu,
-      (position-row 1 (positionOf s) (d .r1), (velocity-components 4 2 (velocityOf s), (derived-numbered d, tt))),
-    ),
-  )
-
-  pub apsides-table : Rows.numberOf (apsidesTests mu s d) ≡ firstOf table
-  apsides-table = ap Rows.numberOf in-a-row ∙ chain-number table numbered
+  -- the number of the first row that applies, in the order of the table
+  pub apsides-table : numberOf (apsidesOf mu s) ≡ firstRow tableOrder tests
+  apsides-table = answered-number (firstFailing tests) (shapeOf mu s) ∙ first-row tableOrder tests refl
 
   -- an input that is infinite or not a number is refused with 1, whatever else holds
-  pub apsides-not-finite : (finite mu && allFinite (positionOf s) && allFinite (velocityOf s)) ≡ false → Rows.numberOf (apsidesTests mu s d) ≡ 1
-  unfolding firstOf
+  pub apsides-not-finite : (finite mu && allFinite (positionOf s) && allFinite (velocityOf s)) ≡ false → numberOf (apsidesOf mu s) ≡ 1
   apsides-not-finite h =
-      let e : passes A ≡ false = inputs-finite mu (positionOf s) (velocityOf s) ∙ h in
-      apsides-table ∙ rw e
+      let behind : List Entry = stateRows mu s (shapeOf mu s .r1) ++ derivedRow (shapeOf mu s) in
+      answered-number (firstFailing tests) (shapeOf mu s)
+      ∙ row-then 1 (finiteInputs mu Position (positionOf s) Velocity (velocityOf s)) behind refl
+      ∙ ap (λ (b : Bool). cond b (Tests.numberOf (firstFailing behind)) 1) (inputs-finite mu Position Velocity (positionOf s) (velocityOf s) ∙ h)
+
+  -- ---- why
+
+  why-number : (t : Test) → whyNumber (whyBy t) ≡ Tests.numberOf t
+  unfolding whyNumber whyBy Tests.numberOf
+  why-number Passed = refl
+  why-number (Failed e) = refl
+
+  why-failed : (t : Test) (e : Entry) → whyBy t ≡ Why.Failed e → t ≡ Failed e
+  unfolding whyBy
+  why-failed Passed e h = let n : _≡_ {A = ℕ} 0 1 = cc in absurd (zero-one n)
+    where
+      zero-one : _≡_ {A = ℕ} 0 1 → ⊥
+      zero-one e = omega arith
+  why-failed (Failed d) e h = cc
+
+  pub explained : (r : Why) → r ≡ whyOf mu s → Explains mu s r
+  explained r h = record {
+    settled = h;
+    number = ap whyNumber h ∙ why-number (firstFailing tests) ∙ sym (answered-number (firstFailing tests) (shapeOf mu s));
+    reason = λ e k. reason tests e (why-failed (firstFailing tests) e (sym h ∙ k));
+  }
 
 -- ---- no answer holds a NaN
 
@@ -162,21 +171,24 @@ distances-clean d h = go (f0 <ᶠ d .alpha && f0 <ᶠ f1 ⊖ d .e) (d .p ⊘ (f1
     go true false e = h
     go false c e = h
 
-near-clean : (mu : Float) (s : State) → let d = shapeOf mu s in passes (derivedRow d) ≡ true → isNan (d .p ⊘ (f1 ⊕ d .e)) ≡ false
+near-clean : (mu : Float) (s : State) → let d = shapeOf mu s in allMeet (derivedRow d) ≡ true → isNan (d .p ⊘ (f1 ⊕ d .e)) ≡ false
 near-clean mu s g =
     let d = shapeOf mu s in
-    let e8 = held (d .e <ᶠ two^ 3) 6 2 0 (d .e) (passes-right _ _ g) in
-    let pn = held (d .pn ≤ᶠ two^ 4) 6 1 0 (d .pn) (passes-right _ _ (passes-left _ _ g)) in
+    let c2 : Bool = sizeOf (d .c2) <ᶠ two^ 6 in
+    let pn : Bool = d .pn ≤ᶠ two^ 4 in
+    let e8 : Bool = d .e <ᶠ two^ 3 in
+    let k = and-1 c2 (pn && (e8 && true)) g in
     let n = root-not-below (radicandOf (f1 ⊖ d .pn ⊗ d .alpha)) in
-    let w = under-8 (d .e) n e8 in
-    quotient (d .p) (f1 ⊕ d .e) (dividend (d .p) (d .r1) (at-most (d .pn) (two^ 4) pn)) (finite-plus (d .e) w) (one-plus (d .e) (within-finite (d .e) 8 w) n)
+    let w = under-8 (d .e) n (and-0 e8 true (and-1 pn (e8 && true) k)) in
+    quotient (d .p) (f1 ⊕ d .e) (dividend (d .p) (d .r1) (at-most (d .pn) (two^ 4) (and-0 pn (e8 && true) k))) (finite-plus (d .e) w) (one-plus (d .e) (within-finite (d .e) 8 w) n)
 
-answered-clean : (t : Test) (d : Shape) → (passes t ≡ true → Clean (distancesOf d)) → Clean (answered t d)
-unfolding answered passes
+answered-clean : (t : Test) (d : Shape) → (t ≡ Passed → Clean (distancesOf d)) → Clean (answered t d)
+unfolding answered
 answered-clean Passed d h = h refl
-answered-clean (Failed f) d h = tt
+answered-clean (Failed e) d h = tt
 
 pub apsides-clean : (mu : Float) (s : State) → Clean (apsidesOf mu s)
 apsides-clean mu s =
-    answered-clean (apsidesTests mu s (shapeOf mu s)) (shapeOf mu s)
-    (λ g. distances-clean (shapeOf mu s) (near-clean mu s (passes-right _ _ g)))
+    let d = shapeOf mu s in
+    answered-clean (firstFailing (apsidesTests mu s d)) d
+    (λ g. distances-clean d (near-clean mu s (met-right (finiteInputs mu Position (positionOf s) Velocity (velocityOf s) ++ stateRows mu s (d .r1)) (derivedRow d) (all-met (apsidesTests mu s d) g))))

@@ -1,18 +1,27 @@
 -- Periapo: the apsides, in the operations of f64 and in their order. Assumes nothing: these are definitions.
 use Prim.Native.Nat.{ℕ}
+use mathlib.Core.Path.{_≡_}
 use mathlib.Core.Bool.{cond, _&&_}
+use mathlib.Core.List.{List, [], _∷_, _++_}
 use lib.Ieee.{Float}
 use Rattle.real.specs.F64.{_⊕_, _⊖_, _⊗_, _⊘_, _<ᶠ_, two^, f0, f1}
 use Rattle.root.specs.Root.{rootOf}
 use Rattle.vector.specs.declared.State.{State}
-use Rattle.vector.specs.declared.rows.Test.{Test}
-use Rattle.vector.specs.declared.rows.Test.the-variants.{Passed, Failed}
+use Rattle.table.specs.declared.Name.the-variants.{Position, Velocity, E}
+use Rattle.table.specs.declared.Part.the-variants.{Whole}
+use Rattle.table.specs.declared.Limit.the-variants.{Under}
+use Rattle.table.specs.declared.Entry.{Entry}
+use Rattle.table.specs.declared.Test.{Test}
+use Rattle.table.specs.declared.Test.the-variants.{Passed, Failed}
 use Rattle.vector.specs.Vectors.{positionOf, velocityOf, crossOf, lengthOf}
-use Rattle.vector.specs.Rows.{holdsOf, _▷_, finiteInputs, stateRows}
+use Rattle.table.specs.Tests.{Reason, entry, firstFailing}
+use Rattle.rows.specs.Rows.{finiteInputs, stateRows}
 use Rattle.conic.specs.Conic.{c2Of, pOf, c2Row, pRow}
 use Rattle.apsides.specs.declared.Shape.{Shape}
 use Rattle.apsides.specs.declared.Apsides.{Apsides}
 use Rattle.apsides.specs.declared.Apsides.the-variants.{Closed, Open, Refused}
+use Rattle.apsides.specs.declared.Why.{Why}
+use Rattle.apsides.specs.declared.Why.the-variants as Why
 
 -- a negative radicand is taken as 0
 unfoldable pub radicandOf : Float → Float
@@ -34,12 +43,12 @@ shapeOf mu s =
     }
 
 -- 6: |c2| < 2^6, p_N = p/r ≤ 2^4, e < 2^3
-abbrev pub derivedRow : Shape → Test
-derivedRow d = c2Row 0 (d .c2) ▷ pRow 1 (d .pn) ▷ holdsOf (d .e <ᶠ two^ 3) 6 2 0 (d .e)
+abbrev pub derivedRow : Shape → List Entry
+derivedRow d = c2Row (d .c2) ++ pRow (d .pn) ++ (entry 6 E Whole (d .e) (Under (two^ 3)) ∷ [])
 
 -- rows 1 to 4 and 6
-abbrev pub apsidesTests : Float → State → Shape → Test
-apsidesTests mu s d = finiteInputs mu (positionOf s) (velocityOf s) ▷ stateRows mu s (d .r1) ▷ derivedRow d
+abbrev pub apsidesTests : Float → State → Shape → List Entry
+apsidesTests mu s d = finiteInputs mu Position (positionOf s) Velocity (velocityOf s) ++ stateRows mu s (d .r1) ++ derivedRow d
 
 -- near = p/(1 + e); closed, with far = p/(1 − e), if α_N > 0 and 1 − e > 0 and far < 2^29; otherwise open, with near only
 unfoldable pub distancesOf : Shape → Apsides
@@ -50,13 +59,31 @@ distancesOf d =
 
 unfoldable pub answered : Test → Shape → Apsides
 answered Passed d = distancesOf d
-answered (Failed f) d = Refused (f .number)
+answered (Failed e) d = Refused (e .number)
 
 abbrev pub apsidesOf : Float → State → Apsides
-apsidesOf mu s = answered (apsidesTests mu s (shapeOf mu s)) (shapeOf mu s)
+apsidesOf mu s = answered (firstFailing (apsidesTests mu s (shapeOf mu s))) (shapeOf mu s)
 
 -- the refusal's number, and 0 for an answer
 unfoldable pub numberOf : Apsides → ℕ
 numberOf (Closed near far) = 0
 numberOf (Open near) = 0
 numberOf (Refused n) = n
+
+-- why: the first test that fails, or that there is none
+unfoldable pub whyBy : Test → Why
+whyBy Passed = Why.Solved
+whyBy (Failed e) = Why.Failed e
+
+abbrev pub whyOf : Float → State → Why
+whyOf mu s = whyBy (firstFailing (apsidesTests mu s (shapeOf mu s)))
+
+unfoldable pub whyNumber : Why → ℕ
+whyNumber Why.Solved = 0
+whyNumber (Why.Failed e) = e .number
+
+-- the number is the answer's own; the test that is told fails, and every test ahead of it is met
+pub record Explains (mu : Float) (s : State) (r : Why) : Type 0 where
+  pub settled : r ≡ whyOf mu s
+  pub number : whyNumber r ≡ numberOf (apsidesOf mu s)
+  pub reason : (e : Entry) → r ≡ Why.Failed e → Reason (apsidesTests mu s (shapeOf mu s)) e

@@ -1,14 +1,24 @@
 // Periapo: the two apsides of a state's orbit.
+use table::Entry;
+use table::Name;
+use table::Part;
+use table::Test;
 use vector::State;
-use vector::Test;
 ghost use mathlib.Core.Path.{_≡_};
-ghost use Rattle.apsides.specs.Apsides.{radicandOf, shapeOf, derivedRow, apsidesTests, distancesOf, apsidesOf};
+ghost use Rattle.table.specs.Tests.{_▷_, firstFailing};
+ghost use Rattle.apsides.specs.Apsides.{radicandOf, shapeOf, derivedRow, apsidesTests, distancesOf, apsidesOf, Explains};
 
 // Closed with near and far, open with near only, or refused with its number.
 pub enum Apsides {
     Closed(f64, f64),
     Open(f64),
     Refused(u32),
+}
+
+// That there is an answer, or the first test that fails.
+pub enum Why {
+    Solved,
+    Failed(Entry),
 }
 
 // The derived numbers.
@@ -53,20 +63,21 @@ pub fn shape_of(mu: f64, s: State) -> Shape
 }
 
 // Row 6: |c2| < 2^6, p_N ≤ 2^4, e < 2^3.
-fn derived_row(d: Shape) -> Test
-    ensures { λ r. ⌜ r ≡ derivedRow d ⌝ }
+fn derived_row(t: Test, d: Shape) -> Test
+    ensures { λ r. ⌜ r ≡ t ▷ derivedRow d ⌝ }
 {
-    let a = vector::first(conic::c2_row(0, d.c2), conic::p_row(1, d.pn));
-    vector::first(a, vector::holds(d.e < 8.0, 6, 2, 0, d.e))
+    let a = conic::p_row(conic::c2_row(t, d.c2), d.pn);
+    table::under(a, 6, Name::E, Part::Whole, d.e, 8.0)
 }
 
 // Rows 1 to 4 and 6.
 pub fn tests(mu: f64, s: State, d: Shape) -> Test
-    ensures { λ r. ⌜ r ≡ apsidesTests mu s d ⌝ }
+    ensures { λ r. ⌜ r ≡ firstFailing (apsidesTests mu s d) ⌝ }
 {
-    let inputs = vector::finite_inputs(mu, vector::position(s), vector::velocity(s));
-    let a = vector::first(inputs, vector::state_rows(mu, s, d.r1));
-    vector::first(a, derived_row(d))
+    let r = vector::position(s);
+    let v = vector::velocity(s);
+    let a = rows::finite_inputs(mu, Name::Position, r, Name::Velocity, v);
+    derived_row(rows::state_rows(a, mu, s, d.r1), d)
 }
 
 fn distances(d: Shape) -> Apsides
@@ -88,5 +99,15 @@ pub fn periapo(mu: f64, s: State) -> Apsides
     match tests(mu, s, d) {
         Test::Passed => distances(d),
         Test::Failed(f) => Apsides::Refused(f.number),
+    }
+}
+
+// Why the apsides of s were refused, or that they were not.
+pub fn why_refused(mu: f64, s: State) -> Why
+    ensures { λ r. ⌜ Explains mu s r ⌝ }
+{
+    match tests(mu, s, shape_of(mu, s)) {
+        Test::Passed => Why::Solved,
+        Test::Failed(e) => Why::Failed(e),
     }
 }

@@ -4,7 +4,7 @@ use mathlib.Core.Bool.{true}
 use lib.Ieee.{add, sub, mul, div, neg, lt, le, eq, ofBits, toBits, ofInt, toUnsigned}
 use Rattle.root.specs.Root.{rootOf, rootAnswer}
 use Rattle.series.specs.Series.{nest, cSeries, sSeries, small, cQuarter, sQuarter, cAt, sAt, inRange, answer, bothAnswer}
-use Rattle.vector.specs.Rows.{holdsOf, _▷_}
+use Rattle.table.specs.Tests.{firstFailing}
 use Rattle.conic.specs.Conic.{trialOf, pointAt}
 use Rattle.iterator.specs.Judged.{inTime, judgedOf}
 use Rattle.iterator.specs.Rule.{byTimes, strideOf}
@@ -16,6 +16,6 @@ use Rattle.by_hand.specs.Rows.{rows, all}
 tried : all rows ≡ true
 unfolding
     rows rootOf rootAnswer nest cSeries sSeries small cQuarter sQuarter cAt sAt inRange answer bothAnswer
-    holdsOf _▷_ trialOf pointAt inTime judgedOf byTimes strideOf ranFor ran judgedTrial radicandOf distancesOf answered
+    firstFailing trialOf pointAt inTime judgedOf byTimes strideOf ranFor ran judgedTrial radicandOf distancesOf answered
     add sub mul div neg lt le eq ofBits toBits ofInt toUnsigned
 tried = refl

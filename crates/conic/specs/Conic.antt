@@ -1,15 +1,18 @@
 -- The formulas that the conic routines share, in the operations of f64 and in their order. Assumes nothing: these are definitions.
-use Prim.Native.Nat.{ℕ}
+use mathlib.Core.List.{List, [], _∷_}
 use lib.IntN.{ℤ}
 use lib.Ieee.{Float, binary64, ofInt}
-use Rattle.real.specs.F64.{_⊕_, _⊖_, _⊗_, _⊘_, _≤ᶠ_, _<ᶠ_, two^, two^-, f1, sizeOf}
+use Rattle.real.specs.F64.{_⊕_, _⊖_, _⊗_, _⊘_, two^, two^-, f1}
 use Rattle.series.specs.declared.Both.{Both}
 use Rattle.series.specs.declared.Both.the-variants.{Values, Refused}
 use Rattle.series.specs.Series.{bothAnswer}
 use Rattle.vector.specs.declared.Vector.{Vector}
-use Rattle.vector.specs.declared.rows.Test.{Test}
+use Rattle.table.specs.declared.Name.the-variants.{C2, P}
+use Rattle.table.specs.declared.Part.the-variants.{Whole}
+use Rattle.table.specs.declared.Limit.the-variants.{AtMost, SizeUnder}
+use Rattle.table.specs.declared.Entry.{Entry}
 use Rattle.vector.specs.Vectors.{dotOf}
-use Rattle.vector.specs.Rows.{holdsOf}
+use Rattle.table.specs.Tests.{entry}
 use Rattle.conic.specs.declared.Orbit.{Orbit}
 use Rattle.conic.specs.declared.Trial.{Trial}
 use Rattle.conic.specs.declared.Trial.the-variants.{At, Out}
@@ -27,11 +30,11 @@ abbrev pub pOf : Vector → Float → Float
 pOf h mu = dotOf h h ⊘ mu
 
 -- 6: |c2| < 2^6, and p_N ≤ 2^4
-abbrev pub c2Row : ℕ → Float → Test
-c2Row input c2 = holdsOf (sizeOf c2 <ᶠ two^ 6) 6 input 0 c2
+abbrev pub c2Row : Float → List Entry
+c2Row c2 = entry 6 C2 Whole c2 (SizeUnder (two^ 6)) ∷ []
 
-abbrev pub pRow : ℕ → Float → Test
-pRow input pN = holdsOf (pN ≤ᶠ two^ 4) 6 input 0 pN
+abbrev pub pRow : Float → List Entry
+pRow pN = entry 6 P Whole pN (AtMost (two^ 4)) ∷ []
 
 -- t = (c1·(z·c) + x·(c2·(z·s) + r1))/√mu
 abbrev pub timeOf : Orbit → Float → Float → Float → Float → Float

@@ -1,8 +1,11 @@
 // What the conic routines share: the grid, two derived numbers with their rows, and the time of a trial.
 use series::Both;
-use vector::Test;
+use table::Name;
+use table::Part;
+use table::Test;
 use vector::Vector;
 ghost use mathlib.Core.Path.{_≡_};
+ghost use Rattle.table.specs.Tests.{_▷_};
 ghost use Rattle.conic.specs.Conic.{gridOf, c2Of, pOf, c2Row, pRow, timeOf, pointAt};
 
 // What the trials of one solve share.
@@ -51,17 +54,17 @@ pub fn p(h: Vector, mu: f64) -> f64
 }
 
 // Row 6 for c2: |c2| < 2^6.
-pub fn c2_row(input: u32, c2: f64) -> Test
-    ensures { λ r. ⌜ r ≡ c2Row input c2 ⌝ }
+pub fn c2_row(t: Test, c2: f64) -> Test
+    ensures { λ r. ⌜ r ≡ t ▷ c2Row c2 ⌝ }
 {
-    vector::holds(real::size(c2) < 64.0, 6, input, 0, c2)
+    table::size_under(t, 6, Name::C2, Part::Whole, c2, 64.0)
 }
 
 // Row 6 for p_N = p/r: p_N ≤ 2^4.
-pub fn p_row(input: u32, pn: f64) -> Test
-    ensures { λ r. ⌜ r ≡ pRow input pn ⌝ }
+pub fn p_row(t: Test, pn: f64) -> Test
+    ensures { λ r. ⌜ r ≡ t ▷ pRow pn ⌝ }
 {
-    vector::holds(pn <= 16.0, 6, input, 0, pn)
+    table::at_most(t, 6, Name::P, Part::Whole, pn, 16.0)
 }
 
 // The time at x, with c and s at its ξ and z = x·x.

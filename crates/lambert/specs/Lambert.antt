@@ -1,20 +1,26 @@
 -- Lambert: two positions and a time give a velocity, in the operations of f64 and in their order. Assumes nothing: these are definitions.
 use mathlib.Core.Bool.{cond, not}
+use mathlib.Core.List.{List, [], _∷_, _++_}
 use lib.IntN.{ℤ}
 use lib.Ieee.{Float, neg}
 use Rattle.real.specs.F64.{_⊕_, _⊖_, _⊗_, _⊘_, _≤ᶠ_, _<ᶠ_, two^, two^-, f0, f1, f2}
 use Rattle.root.specs.Root.{rootOf}
 use Rattle.vector.specs.declared.Vector.{Vector}
-use Rattle.vector.specs.declared.rows.Test.{Test}
+use Rattle.table.specs.declared.Name.the-variants.{First, Second, Velocity, Time, Cross, Ratio}
+use Rattle.table.specs.declared.Part.the-variants.{Whole}
+use Rattle.table.specs.declared.Limit.the-variants as L
+use Rattle.table.specs.declared.Limit.the-variants.{AtLeast}
+use Rattle.table.specs.declared.Entry.{Entry}
 use Rattle.vector.specs.Vectors.{dotOf, crossOf, lengthOf, scaledOf, sumOf, dividedOf, negatedOf}
-use Rattle.vector.specs.Rows.{holdsOf, _▷_, finiteNumber, finiteInputs, muRow, positionRow, velocityComponents, transferTimeRow}
+use Rattle.table.specs.Tests.{entry}
+use Rattle.rows.specs.Rows.{finiteNumber, finiteInputs, muRow, positionRow, velocityComponents, transferTimeRow}
 use Rattle.conic.specs.Conic.{gridOf}
 use Rattle.iterator.specs.declared.Judgement.{Judgement}
 use Rattle.iterator.specs.declared.Judgement.the-variants as J
 use Rattle.iterator.specs.Judged.{judgedOf}
 use Rattle.reach.specs.declared.Arc.{Arc}
 use Rattle.reach.specs.declared.Reached.{Reached}
-use Rattle.reach.specs.declared.Reached.the-variants.{Time, Under, Over}
+use Rattle.reach.specs.declared.Reached.the-variants as R
 use Rattle.reach.specs.Reach.{cothalfOf, cothalfRow, reachOf}
 use Rattle.lambert.specs.declared.Way.{Way}
 use Rattle.lambert.specs.declared.Way.the-variants.{Short, Long}
@@ -57,25 +63,25 @@ transferOf mu first second way =
     sharedOf mu r1 r2 u1 (dotOf u1 u2) (turnOf u1 u2 way)
 
 -- 3, of both positions
-abbrev pub positionRows : Vector → Vector → Transfer → Test
-positionRows first second d = positionRow 1 first (d .r1) ▷ positionRow 2 second (d .r2)
+abbrev pub positionRows : Vector → Vector → Transfer → List Entry
+positionRows first second d = positionRow First first (d .r1) ++ positionRow Second second (d .r2)
 
--- 1, 2, 3 and 5: mu is input 0, the first position 1, the second 2, the time 3
-abbrev pub inputRows : Float → Vector → Vector → Float → Transfer → Test
+-- 1, 2, 3 and 5
+abbrev pub inputRows : Float → Vector → Vector → Float → Transfer → List Entry
 inputRows mu first second t d =
-    finiteInputs mu first second ▷ finiteNumber 3 t ▷ muRow mu ▷ positionRows first second d ▷ transferTimeRow 3 t
+    finiteInputs mu First first Second second ++ finiteNumber Time t ++ muRow mu ++ positionRows first second d ++ transferTimeRow t
 
 -- 10: |u1×u2| < 2^-10
-abbrev pub angleRow : Transfer → Test
-angleRow d = holdsOf (two^- 10 ≤ᶠ d .size) 10 0 0 (d .size)
+abbrev pub angleRow : Transfer → List Entry
+angleRow d = entry 10 Cross Whole (d .size) (AtLeast (two^- 10)) ∷ []
 
 -- 6: r1/r2 < 2^7, |sinθ/(1−cosθ)| ≤ 2^5
-abbrev pub derivedRow : Transfer → Test
-derivedRow d = holdsOf (d .ratio <ᶠ two^ 7) 6 0 0 (d .ratio) ▷ cothalfRow 1 (d .cothalf)
+abbrev pub derivedRow : Transfer → List Entry
+derivedRow d = entry 6 Ratio Whole (d .ratio) (L.Under (two^ 7)) ∷ cothalfRow (d .cothalf)
 
 -- the tests ahead of the first trial, in the order of the rows
-abbrev pub lambertTests : Float → Vector → Vector → Float → Transfer → Test
-lambertTests mu first second t d = inputRows mu first second t d ▷ angleRow d ▷ derivedRow d
+abbrev pub lambertTests : Float → Vector → Vector → Float → Transfer → List Entry
+lambertTests mu first second t d = inputRows mu first second t d ++ angleRow d ++ derivedRow d
 
 -- 1. den = (ratio − cosθ) + sinθ·cot
 abbrev pub denOf : Transfer → Float → Float
@@ -103,7 +109,7 @@ arcOf d p cot = record {
 
 -- under if sinθ > 0, else over
 unfoldable pub sideOf : Float → Reached
-sideOf sin = cond (f0 <ᶠ sin) Under Over
+sideOf sin = cond (f0 <ᶠ sin) R.Under R.Over
 
 -- Unless den > 0, or if p > 16: the side above. Then 4 to 7.
 unfoldable pub reachAt : Transfer → Float → Reached
@@ -113,9 +119,9 @@ reachAt d cot =
 
 -- a time is judged against the time asked for
 unfoldable pub judgedReach : Float → Reached → Judgement
-judgedReach asked (Time t) = judgedOf asked t
-judgedReach asked Under = J.Under
-judgedReach asked Over = J.Over
+judgedReach asked (R.Time t) = judgedOf asked t
+judgedReach asked R.Under = J.Under
+judgedReach asked R.Over = J.Over
 
 -- cot γ = n·2^-20
 abbrev pub lambertJudge : Transfer → Float → ℤ → Judgement
@@ -130,5 +136,5 @@ abbrev pub velocityOf : Transfer → ℤ → Vector
 velocityOf d n = velocityAt d (gridOf n)
 
 -- 9: each velocity component at most 2^7 in size
-abbrev pub resultRow : Vector → Test
-resultRow v = velocityComponents 9 0 v
+abbrev pub resultRow : Vector → List Entry
+resultRow v = velocityComponents 9 Velocity v

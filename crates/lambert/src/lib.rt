@@ -3,9 +3,13 @@
 use iterator::Judgement;
 use reach::Arc;
 use reach::Reached;
-use vector::Test;
+use table::Name;
+use table::Part;
+use table::Test;
 use vector::Vector;
 ghost use mathlib.Core.Path.{_≡_};
+ghost use Rattle.table.specs.declared.Test.the-variants.{Passed};
+ghost use Rattle.table.specs.Tests.{_▷_, firstFailing};
 ghost use Rattle.lambert.specs.Lambert.{turnOf, sharedOf, transferOf, positionRows, inputRows, angleRow, derivedRow, lambertTests, denOf, pOf, arcOf, sideOf, reachAt, lambertJudge, velocityOf, resultRow};
 
 // The short way round from the first position to the second, or the long way.
@@ -89,45 +93,42 @@ pub fn transfer_of(mu: f64, first: Vector, second: Vector, way: Way) -> Transfer
 }
 
 // Row 3, of both positions.
-fn position_rows(first: Vector, second: Vector, d: Transfer) -> Test
-    ensures { λ r. ⌜ r ≡ positionRows first second d ⌝ }
+fn position_rows(t: Test, first: Vector, second: Vector, d: Transfer) -> Test
+    ensures { λ r. ⌜ r ≡ t ▷ positionRows first second d ⌝ }
 {
-    let a = vector::position_row(1, first, d.r1);
-    vector::first(a, vector::position_row(2, second, d.r2))
+    let a = rows::position_row(t, Name::First, first, d.r1);
+    rows::position_row(a, Name::Second, second, d.r2)
 }
 
 // Rows 1, 2, 3 and 5.
 fn input_rows(mu: f64, first: Vector, second: Vector, t: f64, d: Transfer) -> Test
-    ensures { λ r. ⌜ r ≡ inputRows mu first second t d ⌝ }
+    ensures { λ r. ⌜ r ≡ Passed ▷ inputRows mu first second t d ⌝ }
 {
-    let inputs = vector::finite_inputs(mu, first, second);
-    let a = vector::first(inputs, vector::finite_number(3, t));
-    let b = vector::first(a, vector::mu_row(mu));
-    let c = vector::first(b, position_rows(first, second, d));
-    vector::first(c, vector::transfer_time_row(3, t))
+    let a = rows::finite_inputs(mu, Name::First, first, Name::Second, second);
+    let b = rows::mu_row(rows::finite_number(a, Name::Time, t), mu);
+    rows::transfer_time_row(position_rows(b, first, second, d), t)
 }
 
 // Row 10: 2^-10 ≤ |u1×u2|.
-fn angle_row(d: Transfer) -> Test
-    ensures { λ r. ⌜ r ≡ angleRow d ⌝ }
+fn angle_row(t: Test, d: Transfer) -> Test
+    ensures { λ r. ⌜ r ≡ t ▷ angleRow d ⌝ }
 {
-    vector::holds(9.765625e-4 <= d.size, 10, 0, 0, d.size)
+    table::at_least(t, 10, Name::Cross, Part::Whole, d.size, 9.765625e-4)
 }
 
 // Row 6: r1/r2 < 2^7, then |sinθ/(1−cosθ)| ≤ 2^5.
-fn derived_row(d: Transfer) -> Test
-    ensures { λ r. ⌜ r ≡ derivedRow d ⌝ }
+fn derived_row(t: Test, d: Transfer) -> Test
+    ensures { λ r. ⌜ r ≡ t ▷ derivedRow d ⌝ }
 {
-    let a = vector::holds(d.ratio < 128.0, 6, 0, 0, d.ratio);
-    vector::first(a, reach::cothalf_row(1, d.cothalf))
+    let a = table::under(t, 6, Name::Ratio, Part::Whole, d.ratio, 128.0);
+    reach::cothalf_row(a, d.cothalf)
 }
 
 // Rows 1, 2, 3, 5, 10 and 6, ahead of the first trial.
 pub fn tests(mu: f64, first: Vector, second: Vector, t: f64, d: Transfer) -> Test
-    ensures { λ r. ⌜ r ≡ lambertTests mu first second t d ⌝ }
+    ensures { λ r. ⌜ r ≡ firstFailing (lambertTests mu first second t d) ⌝ }
 {
-    let a = vector::first(input_rows(mu, first, second, t, d), angle_row(d));
-    vector::first(a, derived_row(d))
+    derived_row(angle_row(input_rows(mu, first, second, t, d), d), d)
 }
 
 fn den_at(d: Transfer, cot: f64) -> f64
@@ -206,7 +207,7 @@ pub fn velocity_at(d: Transfer, n: i64) -> Vector
 
 // Row 9, of the velocity.
 pub fn result_row(v: Vector) -> Test
-    ensures { λ r. ⌜ r ≡ resultRow v ⌝ }
+    ensures { λ r. ⌜ r ≡ firstFailing (resultRow v) ⌝ }
 {
-    vector::velocity_components(9, 0, v)
+    rows::velocity_components(Test::Passed, 9, Name::Velocity, v)
 }

@@ -42,7 +42,7 @@ wider (fin s m e) a b l h = le-trans h (mul-le-mul-right (down e) l)
 -- ---- a rounded size does not depend on the sign
 
 -- the sign of x, which is no NaN
-abbrev Signed : Float → Bool → Type 0
+abbrev pub Signed : Float → Bool → Type 0
 Signed nan s = ⊥
 Signed (inf t) s = t ≡ s
 Signed (fin t m e) s = t ≡ s
@@ -60,7 +60,7 @@ units-signed f s q k = go (ltb (q * 2 ^ k) (2 ^ (Ieee.low f + suc (Ieee.emax f))
     go true = odd-signed (suc (Ieee.prec f)) s q k (Ieee.low f)
     go false = refl
 
-round-signed : (f : Format) (s : Bool) (n d : ℕ) → Signed (round f s n d) s
+pub round-signed : (f : Format) (s : Bool) (n d : ℕ) → Signed (round f s n d) s
 round-signed f s n d = subst (λ (x : Float). Signed x s) (sym (round-is f s n d)) (units-signed f s _ _)
 
 -- so what is rounded is no NaN
@@ -85,7 +85,7 @@ units-within f s q k a = go (ltb (q * 2 ^ k) (2 ^ (Ieee.low f + suc (Ieee.emax f
     go true h = odd-within (suc (Ieee.prec f)) s q k (Ieee.low f) a h
     go false h = h
 
-round-within : (f : Format) (s : Bool) (n d a : ℕ) → Within (round f false n d) a → Within (round f s n d) a
+pub round-within : (f : Format) (s : Bool) (n d a : ℕ) → Within (round f false n d) a → Within (round f s n d) a
 round-within f s n d a h =
     subst (λ (x : Float). Within x a) (sym (round-is f s n d))
     (units-within f s _ _ a (subst (λ (x : Float). Within x a) (round-is f false n d) h))
@@ -124,7 +124,7 @@ cross m n a e d p h v =
     (subst (λ (k : ℕ). m * d ≤ k) (ap (λ (k : ℕ). k * e) (sym (mul-one n) ∙ v) ∙ mul-right-comm a d e) h)
     p
 
-below-whole : (x y : Float) (a : ℕ) → Signed x false → T (le x y) → HasValue y false a 1 → Within x a
+pub below-whole : (x y : Float) (a : ℕ) → Signed x false → T (le x y) → HasValue y false a 1 → Within x a
 unfolding le lt eq
 below-whole nan y a s t h = absurd s
 below-whole (inf b) nan a s t h = absurd h

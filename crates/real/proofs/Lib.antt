@@ -1,5 +1,6 @@
 -- The laws of the words of f64 that other proofs cite.
 pub mod CutLaws
 pub mod Bounds
+pub mod Powers
 pub mod Finite
 pub mod Tests

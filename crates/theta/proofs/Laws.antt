@@ -1,11 +1,11 @@
 -- The refusal number is the first row's that applies, 1 where an input is infinite or not a number, and 6 where r×v has length 0 and
 -- the rows ahead pass; a time that is handed out is finite, and its state is the one given. Assumes nothing.
-use Prim.Native.Nat.{zero, suc, _*_, _<_}
+use Prim.Native.Nat.{ℕ, zero, suc, _*_, _<_}
 use native.Mathlib.Nat.{mul-pos, zero-lt-suc}
 use native.Mathlib.Omega.{arith}
 use mathlib.Core.Path.{_≡_, refl, sym, ap, _∙_, subst}
 use mathlib.Core.Bool.{Bool, true, false, cond, _&&_, false≢true}
-use mathlib.Core.List.{List, [], _∷_}
+use mathlib.Core.List.{List, [], _∷_, _++_}
 use lib.Dec.{T, eqb, eqb→eq}
 use lib.Ieee as Ieee
 use lib.Ieee.{Float, nan, inf, fin, up, ofBits}
@@ -13,13 +13,19 @@ use lib.Ieee.Fits.{up-pos}
 use Rattle.real.specs.F64.{_⊘_, _≤ᶠ_, _<ᶠ_, two^, f0, finite, sizeOf}
 use Rattle.real.proofs.Finite.{size-at-most}
 use Rattle.vector.specs.declared.State.{State}
-use Rattle.vector.specs.declared.rows.Test.{Test}
-use Rattle.vector.specs.declared.rows.Test.the-variants.{Passed, Failed}
+use Rattle.table.specs.declared.Test.{Test}
+use Rattle.table.specs.declared.Test.the-variants.{Passed, Failed}
 use Rattle.vector.specs.Vectors.{positionOf, velocityOf, dotOf, crossOf, lengthOf}
-use Rattle.vector.specs.Rows as Rows
-use Rattle.vector.specs.Rows.{_▷_, Row, passes, row, firstOf, finiteNumber, finiteInputs, muRow, positionRow, velocityComponents, stateRows}
-use Rattle.vector.proofs.Table.{Numbered, holds-numbered, both-numbered, then-assoc, then-passed, chainOf, AllNumbered, chain-number, last-number, then-passes, holds-passes, finite-inputs, position-row, velocity-components, Finite, passes-left, passes-right, position-finite, velocity-finite}
-use Rattle.vector.proofs.Inputs.{allFinite, inputs-finite}
+use Rattle.table.specs.declared.Name.the-variants.{Position, Velocity, Sin, Cos}
+use Rattle.table.specs.declared.Part.the-variants.{Length}
+use Rattle.table.specs.declared.Limit.the-variants.{AtLeast, Under}
+use Rattle.table.specs.declared.Entry.{Entry}
+use Rattle.table.specs.Tests as Tests
+use Rattle.table.specs.Tests.{entry, firstFailing, allMeet, firstRow, tableOrder}
+use Rattle.rows.specs.Rows.{finiteNumber, finiteInputs, muRow, positionComponents, positionRow, velocityComponents, stateRows}
+use Rattle.table.proofs.Laws.{all-met, meet-both, met-left, met-right, met-then, first-row, row-then}
+use Rattle.rows.proofs.Components.{Finite, position-finite, velocity-finite}
+use Rattle.rows.proofs.Inputs.{allFinite, inputs-finite, two-more}
 use Rattle.real.proofs.Tests.{and-0}
 use Rattle.iterator.proofs.Single.{in-time-finite}
 use Rattle.reach.specs.declared.Reached.{Reached}
@@ -32,76 +38,13 @@ use Rattle.theta.specs.declared.TransferTime.{TransferTime}
 use Rattle.theta.specs.declared.TransferTime.the-variants.{Time}
 use Rattle.theta.specs.Theta.{sweepOf, inputRows, angleRow, derivedRow, thetaTests, arcOf, toldOf, answered, thetaOf, numberOf}
 
--- ---- the chain of the rows, each beside its number
-
-derived-numbered : (d : Sweep) → Numbered 6 (derivedRow d)
-derived-numbered d =
-    both-numbered 6 _ _
-    (both-numbered 6 _ _ (both-numbered 6 _ _ (holds-numbered _ 6 0 0 (d .c2)) (holds-numbered _ 6 1 0 (d .cot))) (holds-numbered _ 6 2 0 (d .pn)))
-    (holds-numbered _ 6 3 0 (d .cothalf))
-
-module _ (mu : Float) (s : State) (sin cos : Float) (d : Sweep) where
-  abbrev A : Test
-  A = finiteInputs mu (positionOf s) (velocityOf s) ▷ finiteNumber 3 sin ▷ finiteNumber 4 cos
-
-  abbrev M : Test
-  M = muRow mu
-
-  abbrev P : Test
-  P = positionRow 1 (positionOf s) (d .r1)
-
-  abbrev W : Test
-  W = velocityComponents 4 2 (velocityOf s)
-
-  abbrev G : Test
-  G = angleRow d
-
-  abbrev D : Test
-  D = derivedRow d
-
-  -- the rows in the order of the table
-  abbrev table : List Row
-  table = row 1 A ∷ row 2 M ∷ row 3 P ∷ row 4 W ∷ row 10 G ∷ row 6 D ∷ []
-
-  in-a-row : thetaTests mu s sin cos d ≡ chainOf table
-  in-a-row =
-      then-assoc (A ▷ (M ▷ P ▷ W)) G D
-      ∙ then-assoc A (M ▷ P ▷ W) (G ▷ D)
-      ∙ ap (λ (x : Test). A ▷ x) (then-assoc (M ▷ P) W (G ▷ D) ∙ then-assoc M P (W ▷ (G ▷ D)))
-      ∙ ap (λ (x : Test). A ▷ (M ▷ (P ▷ (W ▷ (G ▷ x))))) (sym (then-passed D))
-
-  numbered : AllNumbered table
-  numbered = (
-    both-numbered 1 _ _ (both-numbered 1 _ _ (finite-inputs mu (positionOf s) (velocityOf s)) (holds-numbered _ 1 3 0 sin)) (holds-numbered _ 1 4 0 cos),
-    (
-      holds-numbered _ 2 0 0 mu,
-      (
-        position-row 1 (positionOf s) (d .r1),
-        (
-          velocity-components 4 2 (velocityOf s),
-          (
-            both-numbered 10 _ _ (holds-numbered _ 10 0 0 (d .excess)) (holds-numbered _ 10 1 0 (d .versine)),
-            (derived-numbered d, tt),
-          ),
-        ),
-      ),
-    ),
-  )
-
-  pub theta-table : Rows.numberOf (thetaTests mu s sin cos d) ≡ firstOf table
-  theta-table = ap Rows.numberOf in-a-row ∙ chain-number table numbered
-
 -- ---- the answer's number
 
-number : (t : Test) (x : TransferTime) → numberOf (answered t x) ≡ cond (passes t) (numberOf x) (Rows.numberOf t)
-unfolding answered numberOf passes Rows.numberOf
-number Passed x = refl
-number (Failed f) x = refl
-
-passed-then : (a b : Test) → passes a ≡ true → a ▷ b ≡ b
-unfolding _▷_ passes
-passed-then Passed b h = refl
-passed-then (Failed f) b h = absurd (false≢true h)
+-- tests that give a number other than 0 give the answer's
+refused : (t : Test) (x : TransferTime) (n : ℕ) → Tests.numberOf t ≡ suc n → numberOf (answered t x) ≡ suc n
+unfolding answered numberOf Tests.numberOf
+refused Passed x n h = absurd (omega arith)
+refused (Failed e) x n h = h
 
 -- dividing by a zero gives an infinity or a NaN
 over-zero : (x y : Float) → Ieee.eq y f0 ≡ true → finite (x ⊘ y) ≡ false
@@ -130,33 +73,43 @@ not-at-most x h = go (sizeOf x ≤ᶠ two^ 5) (size-at-most x (two^ 5) refl)
     go true f = absurd (false≢true (sym h ∙ f refl))
     go false f = refl
 
-second-fails : (a b c : Bool) → (a && false && b && c) ≡ false
-second-fails true b c = refl
-second-fails false b c = refl
+second-fails : (a b : Bool) → (a && (false && b)) ≡ false
+second-fails true b = refl
+second-fails false b = refl
 
-cot-fails : (d : Sweep) → finite (d .cot) ≡ false → passes (derivedRow d) ≡ false
-cot-fails d h =
-    simp (then-passes, holds-passes, not-at-most (d .cot) h)
-    (second-fails (sizeOf (d .c2) <ᶠ two^ 6) (d .pn ≤ᶠ two^ 4) (sizeOf (d .cothalf) ≤ᶠ two^ 5))
+cot-fails : (d : Sweep) → finite (d .cot) ≡ false → allMeet (derivedRow d) ≡ false
+cot-fails d h = rw (not-at-most (d .cot) h) (second-fails (sizeOf (d .c2) <ᶠ two^ 6) (d .pn ≤ᶠ two^ 4 && (sizeOf (d .cothalf) ≤ᶠ two^ 5 && true)))
 
 module _ (mu : Float) (s : State) (sin cos : Float) where
   abbrev S : Sweep
   S = sweepOf mu s sin cos
 
+  abbrev tests : List Entry
+  tests = thetaTests mu s sin cos S
+
+  -- the number of the first row that applies, in the order of the table
+  pub theta-table : Tests.numberOf (firstFailing tests) ≡ firstRow tableOrder tests
+  theta-table = first-row tableOrder tests refl
+
   -- an input that is infinite or not a number is refused with 1, whatever else holds
   pub theta-not-finite : (finite mu && allFinite (positionOf s) && allFinite (velocityOf s) && finite sin && finite cos) ≡ false → numberOf (thetaOf mu s sin cos) ≡ 1
-  unfolding firstOf
   theta-not-finite h =
-      let e : passes (A mu s sin cos S) ≡ false = simp (then-passes, inputs-finite, holds-passes) h in
-      let k : passes (thetaTests mu s sin cos S) ≡ false = ap passes (in-a-row mu s sin cos S) ∙ then-passes (A mu s sin cos S) _ ∙ rw e in
-      number (thetaTests mu s sin cos S) _ ∙ rw k (theta-table mu s sin cos S ∙ rw e)
+      let inputs : List Entry = finiteInputs mu Position (positionOf s) Velocity (velocityOf s) in
+      let angle : List Entry = finiteNumber Sin sin ++ finiteNumber Cos cos in
+      let behind : List Entry = stateRows mu s (S .r1) ++ angleRow S ++ derivedRow S in
+      let known : allMeet (inputs ++ angle) ≡ false =
+      meet-both inputs angle ∙ two-more (inputs-finite mu Position Velocity (positionOf s) (velocityOf s)) (finite sin) (finite cos) ∙ h
+      in
+      refused (firstFailing tests) _ 0 (row-then 1 (inputs ++ angle) behind refl ∙ ap (λ (b : Bool). cond b (Tests.numberOf (firstFailing behind)) 1) known)
 
   -- r×v has length 0: 6, where the rows ahead pass
-  pub theta-zero : passes (inputRows mu s sin cos (S .r1) ▷ angleRow S) ≡ true → Ieee.eq (lengthOf (crossOf (positionOf s) (velocityOf s))) f0 ≡ true → numberOf (thetaOf mu s sin cos) ≡ 6
+  pub theta-zero : allMeet (inputRows mu s sin cos (S .r1) ++ angleRow S) ≡ true → Ieee.eq (lengthOf (crossOf (positionOf s) (velocityOf s))) f0 ≡ true → numberOf (thetaOf mu s sin cos) ≡ 6
   theta-zero g h =
-      let e : passes (derivedRow S) ≡ false = cot-fails S (over-zero (dotOf (positionOf s) (velocityOf s)) (lengthOf (crossOf (positionOf s) (velocityOf s))) h) in
-      let k : thetaTests mu s sin cos S ≡ derivedRow S = passed-then (inputRows mu s sin cos (S .r1) ▷ angleRow S) (derivedRow S) g in
-      number (thetaTests mu s sin cos S) _ ∙ rw (k, e) (last-number 6 (derivedRow S) (derived-numbered S) ∙ rw e)
+      let e : allMeet (derivedRow S) ≡ false = cot-fails S (over-zero (dotOf (positionOf s) (velocityOf s)) (lengthOf (crossOf (positionOf s) (velocityOf s))) h) in
+      refused (firstFailing tests) _ 5
+      (ap Tests.numberOf (met-then (inputRows mu s sin cos (S .r1) ++ angleRow S) (derivedRow S) g)
+      ∙ row-then 6 (derivedRow S) [] refl
+      ∙ ap (λ (b : Bool). cond b (Tests.numberOf (firstFailing [])) 6) e)
 
 -- ---- what is handed out with a time
 
@@ -166,8 +119,8 @@ pub record Handed (s : State) (z : Timed) : Type 0 where
   pub r : Finite (positionOf s)
   pub v : Finite (velocityOf s)
 
-answered-time : (t : Test) (x : TransferTime) (z : Timed) → answered t x ≡ Time z → (passes t ≡ true) × (x ≡ Time z)
-unfolding answered passes
+answered-time : (t : Test) (x : TransferTime) (z : Timed) → answered t x ≡ Time z → (t ≡ Passed) × (x ≡ Time z)
+unfolding answered
 answered-time Passed x z e = (refl, e)
 answered-time (Failed f) x z e = (cc, cc)
 
@@ -183,12 +136,17 @@ told-time s R.Over z e = (cc, cc)
 pub theta-handed : (mu : Float) (s : State) (sin cos : Float) (z : Timed) → thetaOf mu s sin cos ≡ Time z → Handed s z
 theta-handed mu s sin cos z e =
     let d = sweepOf mu s sin cos in
-    let a = answered-time (thetaTests mu s sin cos d) _ z e in
+    let a = answered-time (firstFailing (thetaTests mu s sin cos d)) _ z e in
     let t = told-time s (reachOf (arcOf mu d)) z (a .1) in
-    let rows : passes (stateRows mu s (d .r1)) ≡ true = passes-right _ _ (passes-left _ _ (passes-left _ _ (a .0))) in
+    let I : List Entry = inputRows mu s sin cos (d .r1) in
+    let N : List Entry = finiteInputs mu Position (positionOf s) Velocity (velocityOf s) ++ finiteNumber Sin sin ++ finiteNumber Cos cos in
+    let P : List Entry = positionRow Position (positionOf s) (d .r1) in
+    let W : List Entry = velocityComponents 4 Velocity (velocityOf s) in
+    let rows = met-right N (muRow mu ++ P ++ W) (met-left I (angleRow d) (met-left (I ++ angleRow d) (derivedRow d) (all-met (thetaTests mu s sin cos d) (a .0)))) in
+    let p = met-right (muRow mu) P (met-left (muRow mu ++ P) W rows) in
     record {
       time = in-time-finite (z .time) (reach-in (arcOf mu d) .held (z .time) (t .0));
       state = t .1;
-      r = position-finite 3 1 (positionOf s) (passes-left _ _ (passes-right _ _ (passes-left _ _ rows)));
-      v = velocity-finite 4 2 (velocityOf s) (passes-right _ _ rows);
+      r = position-finite 3 Position (positionOf s) (met-left (positionComponents 3 Position (positionOf s)) (entry 3 Position Length (d .r1) (AtLeast (two^ 18)) ∷ entry 3 Position Length (d .r1) (Under (two^ 29)) ∷ []) p);
+      v = velocity-finite 4 Velocity (velocityOf s) (met-right (muRow mu ++ P) W rows);
     }

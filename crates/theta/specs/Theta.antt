@@ -1,13 +1,19 @@
 -- Time-Theta: a state and an angle give a time, in the operations of f64 and in their order. Assumes nothing: these are definitions.
 use Prim.Native.Nat.{ℕ}
+use mathlib.Core.List.{List, [], _∷_, _++_}
 use lib.Ieee.{Float}
-use Rattle.real.specs.F64.{_⊕_, _⊖_, _⊗_, _⊘_, _≤ᶠ_, two^, two^-, f1, sizeOf}
+use Rattle.real.specs.F64.{_⊕_, _⊖_, _⊗_, _⊘_, two^, two^-, f1}
 use Rattle.root.specs.Root.{rootOf}
 use Rattle.vector.specs.declared.State.{State}
-use Rattle.vector.specs.declared.rows.Test.{Test}
-use Rattle.vector.specs.declared.rows.Test.the-variants.{Passed, Failed}
+use Rattle.table.specs.declared.Name.the-variants.{Position, Velocity, Sin, Cos, Excess, Versine, Cot}
+use Rattle.table.specs.declared.Part.the-variants.{Whole}
+use Rattle.table.specs.declared.Limit.the-variants.{AtLeast, SizeAtMost}
+use Rattle.table.specs.declared.Entry.{Entry}
+use Rattle.table.specs.declared.Test.{Test}
+use Rattle.table.specs.declared.Test.the-variants.{Passed, Failed}
 use Rattle.vector.specs.Vectors.{positionOf, velocityOf, dotOf, crossOf, lengthOf}
-use Rattle.vector.specs.Rows.{holdsOf, _▷_, finiteNumber, finiteInputs, stateRows}
+use Rattle.table.specs.Tests.{entry, firstFailing}
+use Rattle.rows.specs.Rows.{finiteNumber, finiteInputs, stateRows}
 use Rattle.conic.specs.Conic.{c2Of, pOf, c2Row, pRow}
 use Rattle.reach.specs.declared.Arc.{Arc}
 use Rattle.reach.specs.declared.Reached.{Reached}
@@ -33,24 +39,22 @@ sweepOf mu s sin cos =
       cothalf = cothalfOf sin cos;
     }
 
--- 1 to 4: mu is input 0, the position 1, the velocity 2, the sine 3, the cosine 4
-abbrev pub inputRows : Float → State → Float → Float → Float → Test
+-- 1 to 4
+abbrev pub inputRows : Float → State → Float → Float → Float → List Entry
 inputRows mu s sin cos r1 =
-    finiteInputs mu (positionOf s) (velocityOf s) ▷ finiteNumber 3 sin ▷ finiteNumber 4 cos ▷ stateRows mu s r1
+    finiteInputs mu Position (positionOf s) Velocity (velocityOf s) ++ finiteNumber Sin sin ++ finiteNumber Cos cos ++ stateRows mu s r1
 
 -- 10: |(cos²+sin²)−1| > 2^-40 or 1−cos < 2^-20
-abbrev pub angleRow : Sweep → Test
-angleRow d =
-    holdsOf (sizeOf (d .excess) ≤ᶠ two^- 40) 10 0 0 (d .excess) ▷ holdsOf (two^- 20 ≤ᶠ d .versine) 10 1 0 (d .versine)
+abbrev pub angleRow : Sweep → List Entry
+angleRow d = entry 10 Excess Whole (d .excess) (SizeAtMost (two^- 40)) ∷ entry 10 Versine Whole (d .versine) (AtLeast (two^- 20)) ∷ []
 
 -- 6: |c2| < 2^6, |cot γ| ≤ 2^5, p_N ≤ 2^4, and Lambert's second
-abbrev pub derivedRow : Sweep → Test
-derivedRow d =
-    c2Row 0 (d .c2) ▷ holdsOf (sizeOf (d .cot) ≤ᶠ two^ 5) 6 1 0 (d .cot) ▷ pRow 2 (d .pn) ▷ cothalfRow 3 (d .cothalf)
+abbrev pub derivedRow : Sweep → List Entry
+derivedRow d = c2Row (d .c2) ++ (entry 6 Cot Whole (d .cot) (SizeAtMost (two^ 5)) ∷ pRow (d .pn)) ++ cothalfRow (d .cothalf)
 
 -- the tests, in the order of the rows
-abbrev pub thetaTests : Float → State → Float → Float → Sweep → Test
-thetaTests mu s sin cos d = inputRows mu s sin cos (d .r1) ▷ angleRow d ▷ derivedRow d
+abbrev pub thetaTests : Float → State → Float → Float → Sweep → List Entry
+thetaTests mu s sin cos d = inputRows mu s sin cos (d .r1) ++ angleRow d ++ derivedRow d
 
 -- what steps 4 to 7 are given, with α_N = 1 − c2
 abbrev pub arcOf : Float → Sweep → Arc
@@ -73,10 +77,10 @@ toldOf s R.Over = TooLong
 -- a refusal keeps the number of the test that failed
 unfoldable pub answered : Test → TransferTime → TransferTime
 answered Passed x = x
-answered (Failed f) x = Refused (f .number)
+answered (Failed e) x = Refused (e .number)
 
 abbrev pub thetaFrom : Float → State → Float → Float → Sweep → TransferTime
-thetaFrom mu s sin cos d = answered (thetaTests mu s sin cos d) (toldOf s (reachOf (arcOf mu d)))
+thetaFrom mu s sin cos d = answered (firstFailing (thetaTests mu s sin cos d)) (toldOf s (reachOf (arcOf mu d)))
 
 abbrev pub thetaOf : Float → State → Float → Float → TransferTime
 thetaOf mu s sin cos = thetaFrom mu s sin cos (sweepOf mu s sin cos)

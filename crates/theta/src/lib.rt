@@ -1,9 +1,13 @@
 // Time-Theta: a state and an angle give the time from the one end of the angle to the other.
 use reach::Arc;
 use reach::Reached;
+use table::Name;
+use table::Part;
+use table::Test;
 use vector::State;
-use vector::Test;
 ghost use mathlib.Core.Path.{_≡_};
+ghost use Rattle.table.specs.declared.Test.the-variants.{Passed};
+ghost use Rattle.table.specs.Tests.{_▷_, firstFailing};
 ghost use Rattle.theta.specs.Theta.{sweepOf, inputRows, angleRow, derivedRow, thetaTests, arcOf, toldOf, thetaOf};
 
 // The derived numbers: excess is (cos² + sin²) − 1, versine is 1 − cos, pn is p_N, and cothalf is sin/(1 − cos).
@@ -50,48 +54,54 @@ pub fn sweep_of(mu: f64, s: State, sin: f64, cos: f64) -> Sweep
 }
 
 // Row 10: |(cos²+sin²)−1| ≤ 2^-40, then 2^-20 ≤ 1−cos.
-fn angle_row(d: Sweep) -> Test
-    ensures { λ r. ⌜ r ≡ angleRow d ⌝ }
+fn angle_row(t: Test, d: Sweep) -> Test
+    ensures { λ r. ⌜ r ≡ t ▷ angleRow d ⌝ }
 {
-    let a = vector::holds(
-        real::size(d.excess) <= 9.094947017729282e-13,
+    let a = table::size_at_most(
+        t,
         10,
-        0,
-        0,
+        Name::Excess,
+        Part::Whole,
         d.excess,
+        9.094947017729282e-13,
     );
-    vector::first(
+    table::at_least(
         a,
-        vector::holds(9.5367431640625e-7 <= d.versine, 10, 1, 0, d.versine),
+        10,
+        Name::Versine,
+        Part::Whole,
+        d.versine,
+        9.5367431640625e-7,
     )
 }
 
 // Row 6: |c2| < 2^6, |cot γ| ≤ 2^5, p_N ≤ 2^4, then |sin/(1−cos)| ≤ 2^5.
-fn derived_row(d: Sweep) -> Test
-    ensures { λ r. ⌜ r ≡ derivedRow d ⌝ }
+fn derived_row(t: Test, d: Sweep) -> Test
+    ensures { λ r. ⌜ r ≡ t ▷ derivedRow d ⌝ }
 {
-    let cot = vector::holds(real::size(d.cot) <= 32.0, 6, 1, 0, d.cot);
-    let a = vector::first(conic::c2_row(0, d.c2), cot);
-    let b = vector::first(a, conic::p_row(2, d.pn));
-    vector::first(b, reach::cothalf_row(3, d.cothalf))
+    let a = conic::c2_row(t, d.c2);
+    let b = table::size_at_most(a, 6, Name::Cot, Part::Whole, d.cot, 32.0);
+    reach::cothalf_row(conic::p_row(b, d.pn), d.cothalf)
 }
 
 // Rows 1 to 4, from r1 = |r|.
 fn input_rows(mu: f64, s: State, sin: f64, cos: f64, r1: f64) -> Test
-    ensures { λ r. ⌜ r ≡ inputRows mu s sin cos r1 ⌝ }
+    ensures { λ r. ⌜ r ≡ Passed ▷ inputRows mu s sin cos r1 ⌝ }
 {
-    let inputs = vector::finite_inputs(mu, vector::position(s), vector::velocity(s));
-    let a = vector::first(inputs, vector::finite_number(3, sin));
-    let b = vector::first(a, vector::finite_number(4, cos));
-    vector::first(b, vector::state_rows(mu, s, r1))
+    let r = vector::position(s);
+    let v = vector::velocity(s);
+    let a = rows::finite_inputs(mu, Name::Position, r, Name::Velocity, v);
+    let b = rows::finite_number(a, Name::Sin, sin);
+    let c = rows::finite_number(b, Name::Cos, cos);
+    rows::state_rows(c, mu, s, r1)
 }
 
 // Rows 1 to 4, 10 and 6.
 pub fn tests(mu: f64, s: State, sin: f64, cos: f64, d: Sweep) -> Test
-    ensures { λ r. ⌜ r ≡ thetaTests mu s sin cos d ⌝ }
+    ensures { λ r. ⌜ r ≡ firstFailing (thetaTests mu s sin cos d) ⌝ }
 {
-    let a = vector::first(input_rows(mu, s, sin, cos, d.r1), angle_row(d));
-    vector::first(a, derived_row(d))
+    let a = input_rows(mu, s, sin, cos, d.r1);
+    derived_row(angle_row(a, d), d)
 }
 
 // What steps 4 to 7 are given.

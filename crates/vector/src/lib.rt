@@ -1,20 +1,4 @@
-// Vectors and states, and the rows of the refusal table that look at an input alone.
-mod rows;
-
-pub use rows::Fault;
-pub use rows::Test;
-pub use rows::finite_inputs;
-pub use rows::finite_number;
-pub use rows::finite_vector;
-pub use rows::first;
-pub use rows::holds;
-pub use rows::mu_row;
-pub use rows::position_components;
-pub use rows::position_row;
-pub use rows::state_rows;
-pub use rows::time_row;
-pub use rows::transfer_time_row;
-pub use rows::velocity_components;
+// Vectors and states.
 ghost use mathlib.Core.Path.{_≡_};
 ghost use Rattle.vector.specs.Vectors.{positionOf, velocityOf, stateOf, dotOf, crossOf, lengthOf, scaledOf, sumOf, dividedOf, negatedOf};
 

@@ -1,7 +1,8 @@
 -- `apsides::periapo` meets its contract. Assumes nothing.
 use Rattle.apsides.specs.Apsides.{apsidesTests}
 use Rattle.apsides.specs.declared.Shape.{Shape}
-use Rattle.vector.specs.declared.rows.Test.{Test}
+use Rattle.table.specs.declared.Test.{Test}
+use Rattle.table.specs.Tests.{firstFailing}
 use mathlib.Core.Path.{sym, ap, _∙_}
 use Rattle.apsides.specs.Apsides.{answered}
 use borrow.Author.Needs.{needs}
@@ -31,7 +32,7 @@ returns c =
     let d = k .before .shape-of .result in
     c .distances .ensures
     ∙ ap (λ (t : Test). answered t d) (sym (c .before .enum-told .given .1) ∙ k .tests .ensures)
-    ∙ ap (λ (z : Shape). answered (apsidesTests (a .mu) (a .s) z) z) (k .before .shape-of .ensures)
+    ∙ ap (λ (z : Shape). answered (firstFailing (apsidesTests (a .mu) (a .s) z)) z) (k .before .shape-of .ensures)
 
 returns-2 : tie.Need-returns-2
 unfolding answered
@@ -40,7 +41,7 @@ returns-2 c =
     let a = k .before .before .args in
     let d = k .before .shape-of .result in
     ap (λ (t : Test). answered t d) (sym (c .before .f .given .1) ∙ k .tests .ensures)
-    ∙ ap (λ (z : Shape). answered (apsidesTests (a .mu) (a .s) z) z) (k .before .shape-of .ensures)
+    ∙ ap (λ (z : Shape). answered (firstFailing (apsidesTests (a .mu) (a .s) z)) z) (k .before .shape-of .ensures)
 
 pub periapo-spec : {M : Type 1} → statement M
 periapo-spec =

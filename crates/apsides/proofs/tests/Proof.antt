@@ -1,4 +1,6 @@
 -- `apsides::tests` meets its contract. Assumes nothing.
+use Rattle.table.proofs.Laws.{first-failing}
+use Rattle.apsides.specs.Apsides.{apsidesTests}
 use borrow.Author.Needs.{needs}
 use Rattle.apsides.proofs.tests.Statement.{statement}
 use Rattle.apsides.proofs.tests.Tie as tie
@@ -15,17 +17,14 @@ finite-inputs-requires c κs = search needs
 state-rows-requires : tie.Need-state-rows-requires
 state-rows-requires c κs = search needs
 
-first-requires : tie.Need-first-requires
-first-requires c κs = search needs
-
 derived-row-requires : tie.Need-derived-row-requires
 derived-row-requires c κs = search needs
 
-first-requires-2 : tie.Need-first-requires-2
-first-requires-2 c κs = search needs
-
 returns : tie.Need-returns
-returns c = simp (c .first2 .ensures, c .before .derived-row .ensures, c .before .before .first .ensures, c .before .before .before .state-rows .ensures, c .before .before .before .before .finite-inputs .ensures, c .before .before .before .before .before .velocity .ensures, c .before .before .before .before .before .before .position .ensures)
+returns c =
+    let a = c .before .before .before .before .before .args in
+    simp (c .derived-row .ensures, c .before .state-rows .ensures, c .before .before .finite-inputs .ensures, c .before .before .before .velocity .ensures, c .before .before .before .before .position .ensures)
+    (first-failing (apsidesTests (a .mu) (a .s) (a .d)))
 
 pub tests-spec : {M : Type 1} → statement M
 tests-spec =
@@ -35,7 +34,5 @@ tests-spec =
     velocity-requires
     finite-inputs-requires
     state-rows-requires
-    first-requires
     derived-row-requires
-    first-requires-2
     returns)

@@ -1,4 +1,6 @@
 -- `lambert::tests` meets its contract. Assumes nothing.
+use Rattle.table.proofs.Laws.{first-failing}
+use Rattle.lambert.specs.Lambert.{lambertTests}
 use borrow.Author.Needs.{needs}
 use Rattle.lambert.proofs.tests.Statement.{statement}
 use Rattle.lambert.proofs.tests.Tie as tie
@@ -9,25 +11,15 @@ input-rows-requires c κs = search needs
 angle-row-requires : tie.Need-angle-row-requires
 angle-row-requires c κs = search needs
 
-first-requires : tie.Need-first-requires
-first-requires c κs = search needs
-
 derived-row-requires : tie.Need-derived-row-requires
 derived-row-requires c κs = search needs
 
-first-requires-2 : tie.Need-first-requires-2
-first-requires-2 c κs = search needs
-
 returns : tie.Need-returns
-returns c = cc
+returns c =
+    let a = c .before .before .before .args in
+    simp (c .derived-row .ensures, c .before .angle-row .ensures, c .before .before .input-rows .ensures)
+    (first-failing (lambertTests (a .mu) (a .first) (a .second) (a .t) (a .d)))
 
 pub tests-spec : {M : Type 1} → statement M
 tests-spec =
-    tie.close
-    (tie.spec
-    input-rows-requires
-    angle-row-requires
-    first-requires
-    derived-row-requires
-    first-requires-2
-    returns)
+    tie.close (tie.spec input-rows-requires angle-row-requires derived-row-requires returns)

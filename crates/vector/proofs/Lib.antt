@@ -1,3 +1,0 @@
--- The laws of the rows.
-pub mod Table
-pub mod Inputs
