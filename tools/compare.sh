@@ -26,6 +26,12 @@ python3 tools/stored.py --check
 "$second" desk <crates/desk/stdin >"$room/stored"
 python3 second/compare.py crates/desk/stdout "$room/stored" crates/desk/stdin
 
+echo "hard roots"
+python3 tools/root_cases.py >"$room/requests"
+"$second" desk <"$room/requests" >"$room/second"
+./cabin run desk <"$room/requests" >"$room/desk"
+python3 second/compare.py "$room/desk" "$room/second" "$room/requests"
+
 echo "$requests fresh requests, seed $seed"
 "$second" requests "$seed" "$requests" >"$room/requests"
 "$second" desk <"$room/requests" >"$room/second"
