@@ -12,7 +12,7 @@ use lib.IntN.{ℤ, pos, negsuc, _-ℤ_}
 use mir.Syntax.{w64}
 use mir.Val.{toZ}
 use mir.Facts.{toZ-pos}
-use Rattle.session.specs.Bytes.{le}
+use Rattle.field.specs.Bytes.{le}
 
 -- one byte more in front
 pub le-back : (p : List ℕ) (i : ℕ) → 0 < i → i ≤ length p → le (drop (i - 1) p) ≡ le (drop i p) * 256 + getD p (i - 1) 0

@@ -1,5 +1,5 @@
 -- Numbers as bytes, little-endian. Assumes nothing: these are definitions.
-use Prim.Native.Nat.{ℕ, zero, suc, _+_, _*_, _/_, _%_}
+use Prim.Native.Nat.{ℕ, zero, suc, _+_, _*_, _/_, _%_, min}
 use mathlib.Core.List.{List, [], _∷_}
 use lib.ListN.{take, drop}
 use lib.IntN.{ℤ}
@@ -19,6 +19,10 @@ bytesLe (suc w) n = (n % 256) ∷ bytesLe w (n / 256)
 -- the w bytes from o on, as a number
 abbrev pub field : ℕ → ℕ → List ℕ → ℕ
 field o w s = le (take w (drop o s))
+
+-- at most eight of them
+abbrev pub readOf : ℕ → ℕ → List ℕ → ℕ
+readOf o w s = field o (min w 8) s
 
 -- 64 bits in two's complement, and the bits of a signed number
 abbrev pub signedOf : ℕ → ℤ
