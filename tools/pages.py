@@ -21,8 +21,8 @@ CASES = {
     "root": [("root/specs/Root", REFUSED)],
     "series": [("series/specs/Series", REFUSED)],
     "trial": [("iterator/specs/Single", REFUSED)],
-    "reader": [("session/specs/Decode", REFUSED), ("session/specs/Read", REFUSED)],
-    "listing": [("session/specs/Decode", REFUSED), ("session/specs/Read", REFUSED), ("lines/specs/Lines", REFUSED)],
+    "reader": [("session/specs/Decode", REFUSED), ("session/specs/Offset", REFUSED), ("session/specs/Read", REFUSED)],
+    "listing": [("session/specs/Decode", REFUSED), ("session/specs/Offset", REFUSED), ("session/specs/Read", REFUSED), ("lines/specs/Lines", REFUSED)],
 }
 
 
@@ -56,13 +56,18 @@ def faults_of_blocks(page, text):
             wanted, got = body, program("listing", head.split()[1])
         if got != wanted:
             yield f"{page}: a block shows\n{wanted}and the program gives\n{got}"
+    for body in re.findall(r"^```sh\n(.*?)^```$", text, re.M | re.S):
+        for command, wanted in re.findall(r"^\$ (.*)\n((?:(?!\$ ).*\n)*)", body, re.M):
+            got = subprocess.run(["bash", "-c", command], capture_output=True, text=True, cwd=ROOT).stdout
+            if got != wanted:
+                yield f"{page}: after $ {command} the page shows\n{wanted}and the program gives\n{got}"
 
 
 def main():
     faults, blocks = [], 0
     for path in sorted(PAGES.glob("*.md")) + [ROOT / "README.md"]:
         text, page = path.read_text(), path.stem
-        blocks += len(re.findall(r"^```(?:desk|list)", text, re.M))
+        blocks += len(re.findall(r"^```(?:desk|list|sh)", text, re.M))
         faults += faults_of_blocks(page, text)
         if page in CASES and numbers_on(text) != numbers_defined(page):
             faults.append(f"{page}: the page has {sorted(numbers_on(text), key=int)}, the definitions {sorted(numbers_defined(page), key=int)}")
