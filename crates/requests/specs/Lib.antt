@@ -1,2 +1,4 @@
-pub mod Wants
-pub mod Lines
+pub mod Judgements
+pub mod Forms
+pub mod Requests
+pub mod Parts

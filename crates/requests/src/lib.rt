@@ -1,6 +1,8 @@
 // A line of the desk, read: which routine it asks, and with what.
+mod judgement;
 mod line;
-mod wants;
+mod parts;
+mod request;
 
-pub use line::Request;
 pub use line::read;
+pub use request::Request;

@@ -1,224 +1,214 @@
-// A line as a request.
-ghost use Prim.Native.Nat.{_<_};
+// A line as a request: the routine that its first word names, and the words behind it.
 ghost use mathlib.Core.Path.{_≡_};
-ghost use Rattle.requests.specs.Lines.{numberAt, signedAt, wholeAt, judgementAt, wayAt, vectorAt, stateAt};
-ghost use Rattle.requests.specs.Lines.{madeOf, askedOf, isComment, requestOf};
-use crate::wants::Named;
-use crate::wants::Routine;
-use crate::wants::find_routine;
-use crate::wants::first_unread;
-use iterator::Judgement;
+ghost use lib.IntN.{ℤ};
+ghost use Rattle.words.specs.Words.{wordAt};
+ghost use Rattle.requests.specs.Forms.{readBy};
+ghost use Rattle.requests.specs.Requests.{rootForm, cForm, sForm, trialForm, keplerForm, lambertForm, thetaForm, apsidesForm};
+ghost use Rattle.requests.specs.Requests.{solvers, routines, isComment, requestOf};
+use crate::parts::Alone;
+use crate::parts::Ends;
+use crate::parts::Sides;
+use crate::parts::Three;
+use crate::parts::alone;
+use crate::parts::ended;
+use crate::parts::ends_at;
+use crate::parts::number_at;
+use crate::parts::sides_at;
+use crate::parts::three;
+use crate::request::Request;
 use lambert::Way;
-use vector::State;
-use vector::Vector;
-use words::Judged;
-use words::Number;
-use words::Signed;
-use words::Whole;
+use numerals::Number;
+use numerals::Whole;
 
-// What a line asks. A line with no word and a comment ask nothing; a line that cannot be read tells its first such
-// word, or 0 for a line of over 1,000 bytes.
-pub enum Request {
-    Nothing,
-    Root(f64),
-    C(f64),
-    S(f64),
-    Trial {
-        asked: f64,
-        lo: i64,
-        hi: i64,
-        below: Judgement,
-        above: Judgement,
-        k: u64,
-    },
-    Kepler {
-        mu: f64,
-        state: State,
-        time: f64,
-    },
-    Lambert {
-        mu: f64,
-        first: Vector,
-        second: Vector,
-        time: f64,
-        way: Way,
-    },
-    Theta {
-        mu: f64,
-        state: State,
-        sine: f64,
-        cosine: f64,
-    },
-    Apsides {
-        mu: f64,
-        state: State,
-    },
-    Unread(u64),
-}
-
-// The value of the word behind the first k words; a word that cannot be read has one too, which no answer shows.
-fn number_at(line: &[u8], k: u64) -> f64
-    ensures { λ r. ⌜ r ≡ numberAt (now (line .entry)) k ⌝ }
+fn root(line: &[u8]) -> Request
+    ensures { λ r. ⌜ r ≡ readBy rootForm 1 (now (line .entry)) ⌝ }
 {
-    match words::read_number(words::word(line, k)) {
-        Number::Read(x) => x,
-        Number::Unread => 0.0,
+    match alone(line) {
+        Alone::Read(x) => Request::Root(x),
+        Alone::Unread(k) => Request::Unread(k),
     }
 }
 
-fn signed_at(line: &[u8], k: u64) -> i64
-    ensures { λ r. ⌜ r ≡ signedAt (now (line .entry)) k ⌝ }
+fn c(line: &[u8]) -> Request
+    ensures { λ r. ⌜ r ≡ readBy cForm 1 (now (line .entry)) ⌝ }
 {
-    match words::read_signed(words::word(line, k)) {
-        Signed::Read(z) => z,
-        Signed::Unread => 0,
+    match alone(line) {
+        Alone::Read(xi) => Request::C(xi),
+        Alone::Unread(k) => Request::Unread(k),
     }
 }
 
-fn whole_at(line: &[u8], k: u64) -> u64
-    ensures { λ r. ⌜ r ≡ wholeAt (now (line .entry)) k ⌝ }
+fn s(line: &[u8]) -> Request
+    ensures { λ r. ⌜ r ≡ readBy sForm 1 (now (line .entry)) ⌝ }
 {
-    match words::read_whole(words::word(line, k)) {
-        Whole::Read(n) => n,
-        Whole::Unread => 0,
+    match alone(line) {
+        Alone::Read(xi) => Request::S(xi),
+        Alone::Unread(k) => Request::Unread(k),
     }
-}
-
-fn judgement_at(line: &[u8], k: u64) -> Judgement
-    ensures { λ r. ⌜ r ≡ judgementAt (now (line .entry)) k ⌝ }
-{
-    match words::read_judgement(words::word(line, k)) {
-        Judged::Low(t) => Judgement::Low(t),
-        Judged::High(t) => Judgement::High(t),
-        Judged::Under => Judgement::Under,
-        Judged::Over => Judgement::Over,
-        Judged::Unread => Judgement::Under,
-    }
-}
-
-fn way_at(line: &[u8], k: u64) -> Way
-    ensures { λ r. ⌜ r ≡ wayAt (now (line .entry)) k ⌝ }
-{
-    if words::is_word(words::word(line, k), b"long") {
-        return Way::Long;
-    }
-    Way::Short
-}
-
-fn vector_at(line: &[u8], k: u64) -> Vector
-    requires { ⌜ k < 100 ⌝ }
-    ensures { λ r. ⌜ r ≡ vectorAt (now (line .entry)) k ⌝ }
-{
-    let x = number_at(line, k);
-    let y = number_at(line, k + 1);
-    let z = number_at(line, k + 2);
-    Vector { x, y, z }
-}
-
-fn state_at(line: &[u8]) -> State
-    ensures { λ r. ⌜ r ≡ stateAt (now (line .entry)) ⌝ }
-{
-    let r = vector_at(line, 2);
-    let v = vector_at(line, 5);
-    vector::state_of(r, v)
 }
 
 fn trial(line: &[u8]) -> Request
-    ensures { λ r. ⌜ r ≡ madeOf Routine.Trial (now (line .entry)) ⌝ }
+    ensures { λ r. ⌜ r ≡ readBy trialForm 1 (now (line .entry)) ⌝ }
 {
-    let asked = number_at(line, 1);
-    let lo = signed_at(line, 2);
-    let hi = signed_at(line, 3);
-    let below = judgement_at(line, 4);
-    let above = judgement_at(line, 5);
-    let k = whole_at(line, 6);
-    Request::Trial {
-        asked,
-        lo,
-        hi,
-        below,
-        above,
-        k,
+    match number_at(line, 1) {
+        Number::Read(asked) => match ends_at(line, 2) {
+            Ends::Read(lo, hi) => match sides_at(line, 4) {
+                Sides::Read(below, above) => match numerals::read_whole(words::word(line, 6)) {
+                    Whole::Read(k) => ended(
+                        line,
+                        7,
+                        Request::Trial {
+                            asked,
+                            lo,
+                            hi,
+                            below,
+                            above,
+                            k,
+                        },
+                    ),
+                    Whole::Unread => Request::Unread(7),
+                },
+                Sides::Unread(w) => Request::Unread(w),
+            },
+            Ends::Unread(w) => Request::Unread(w),
+        },
+        Number::Unread => Request::Unread(2),
     }
 }
 
 fn kepler(line: &[u8]) -> Request
-    ensures { λ r. ⌜ r ≡ madeOf Routine.Kepler (now (line .entry)) ⌝ }
+    ensures { λ r. ⌜ r ≡ readBy keplerForm 1 (now (line .entry)) ⌝ }
 {
-    let mu = number_at(line, 1);
-    let state = state_at(line);
-    let time = number_at(line, 8);
-    Request::Kepler { mu, state, time }
+    match three(line) {
+        Three::Read(mu, r, v) => match number_at(line, 8) {
+            Number::Read(time) => {
+                let state = vector::state_of(r, v);
+                ended(line, 9, Request::Kepler { mu, state, time })
+            }
+            Number::Unread => Request::Unread(9),
+        },
+        Three::Unread(k) => Request::Unread(k),
+    }
 }
 
 fn lambert(line: &[u8]) -> Request
-    ensures { λ r. ⌜ r ≡ madeOf Routine.Lambert (now (line .entry)) ⌝ }
+    ensures { λ r. ⌜ r ≡ readBy lambertForm 1 (now (line .entry)) ⌝ }
 {
-    let mu = number_at(line, 1);
-    let first = vector_at(line, 2);
-    let second = vector_at(line, 5);
-    let time = number_at(line, 8);
-    let way = way_at(line, 9);
-    Request::Lambert {
-        mu,
-        first,
-        second,
-        time,
-        way,
+    match three(line) {
+        Three::Read(mu, first, second) => match number_at(line, 8) {
+            Number::Read(time) => {
+                let w = words::word(line, 9);
+                if words::is_word(w, b"short") {
+                    let way = Way::Short;
+                    return ended(
+                        line,
+                        10,
+                        Request::Lambert {
+                            mu,
+                            first,
+                            second,
+                            time,
+                            way,
+                        },
+                    );
+                }
+                if words::is_word(w, b"long") {
+                    let way = Way::Long;
+                    return ended(
+                        line,
+                        10,
+                        Request::Lambert {
+                            mu,
+                            first,
+                            second,
+                            time,
+                            way,
+                        },
+                    );
+                }
+                Request::Unread(10)
+            }
+            Number::Unread => Request::Unread(9),
+        },
+        Three::Unread(k) => Request::Unread(k),
     }
 }
 
 fn theta(line: &[u8]) -> Request
-    ensures { λ r. ⌜ r ≡ madeOf Routine.Theta (now (line .entry)) ⌝ }
+    ensures { λ r. ⌜ r ≡ readBy thetaForm 1 (now (line .entry)) ⌝ }
 {
-    let mu = number_at(line, 1);
-    let state = state_at(line);
-    let sine = number_at(line, 8);
-    let cosine = number_at(line, 9);
-    Request::Theta {
-        mu,
-        state,
-        sine,
-        cosine,
+    match three(line) {
+        Three::Read(mu, r, v) => match number_at(line, 8) {
+            Number::Read(sine) => match number_at(line, 9) {
+                Number::Read(cosine) => {
+                    let state = vector::state_of(r, v);
+                    ended(
+                        line,
+                        10,
+                        Request::Theta {
+                            mu,
+                            state,
+                            sine,
+                            cosine,
+                        },
+                    )
+                }
+                Number::Unread => Request::Unread(10),
+            },
+            Number::Unread => Request::Unread(9),
+        },
+        Three::Unread(k) => Request::Unread(k),
     }
 }
 
 fn apsides(line: &[u8]) -> Request
-    ensures { λ r. ⌜ r ≡ madeOf Routine.Apsides (now (line .entry)) ⌝ }
+    ensures { λ r. ⌜ r ≡ readBy apsidesForm 1 (now (line .entry)) ⌝ }
 {
-    let mu = number_at(line, 1);
-    let state = state_at(line);
-    Request::Apsides { mu, state }
-}
-
-fn made(r: Routine, line: &[u8]) -> Request
-    ensures { λ x. ⌜ x ≡ madeOf r (now (line .entry)) ⌝ }
-{
-    match r {
-        Routine::Root => Request::Root(number_at(line, 1)),
-        Routine::C => Request::C(number_at(line, 1)),
-        Routine::S => Request::S(number_at(line, 1)),
-        Routine::Trial => trial(line),
-        Routine::Kepler => kepler(line),
-        Routine::Lambert => lambert(line),
-        Routine::Theta => theta(line),
-        Routine::Apsides => apsides(line),
-    }
-}
-
-fn asked(n: Named, line: &[u8]) -> Request
-    ensures { λ x. ⌜ x ≡ askedOf n (now (line .entry)) ⌝ }
-{
-    match n {
-        Named::Known(r) => {
-            let k = first_unread(line, r);
-            if k == 0 {
-                return made(r, line);
-            }
-            Request::Unread(k)
+    match three(line) {
+        Three::Read(mu, r, v) => {
+            let state = vector::state_of(r, v);
+            ended(line, 8, Request::Apsides { mu, state })
         }
-        Named::Unknown => Request::Unread(1),
+        Three::Unread(k) => Request::Unread(k),
     }
+}
+
+fn solver(name: &[u8], line: &[u8]) -> Request
+    requires { ⌜ now name ≡ wordAt 0 (now line) ⌝ }
+    ensures { λ r. ⌜ r ≡ readBy solvers 0 (now (line .entry)) ⌝ }
+{
+    if words::is_word(name, b"kepler") {
+        return kepler(line);
+    }
+    if words::is_word(name, b"lambert") {
+        return lambert(line);
+    }
+    if words::is_word(name, b"theta") {
+        return theta(line);
+    }
+    if words::is_word(name, b"apsides") {
+        return apsides(line);
+    }
+    Request::Unread(1)
+}
+
+fn routine(name: &[u8], line: &[u8]) -> Request
+    requires { ⌜ now name ≡ wordAt 0 (now line) ⌝ }
+    ensures { λ r. ⌜ r ≡ readBy routines 0 (now (line .entry)) ⌝ }
+{
+    if words::is_word(name, b"root") {
+        return root(line);
+    }
+    if words::is_word(name, b"c") {
+        return c(line);
+    }
+    if words::is_word(name, b"s") {
+        return s(line);
+    }
+    if words::is_word(name, b"trial") {
+        return trial(line);
+    }
+    solver(name, line)
 }
 
 fn is_comment(line: &[u8]) -> bool
@@ -244,5 +234,5 @@ pub fn read(line: &[u8]) -> Request
     if name.len() == 0 {
         return Request::Nothing;
     }
-    asked(find_routine(name), line)
+    routine(name, line)
 }
