@@ -1,78 +1,77 @@
--- The desk's answers as lines: decimals for people, then `bits` and the same numbers exactly. Assumes nothing: these are definitions.
+-- The desk's lines, piece by piece: decimals for people, then `bits` and the same numbers exactly. Assumes nothing: these are definitions.
 use Prim.Native.Nat.{ℕ}
-use mathlib.Core.Path.{_≡_}
-use mathlib.Core.Bool.{Bool, true, false}
 use mathlib.Core.List.{List, [], _∷_, _++_}
-use lib.ListN.{length, drop}
-use lib.Dec.{ltb}
 use lib.IntN.{ℤ}
 use lib.Ieee.{Float}
-use Rattle.text.specs.Text.{decimal, signedText}
-use Rattle.figures.specs.Figures.{fixedOf, bitsOf}
+use Rattle.text.specs.Text.{ascii, decimal, signedText}
+use Rattle.vector.specs.declared.Vector.{Vector}
+use Rattle.vector.specs.declared.State.{State}
+use Rattle.solve.specs.declared.Grade.{Grade}
+use Rattle.solve.specs.declared.Grade.the-variants.{Closed, Fair, Rough}
+use Rattle.solve.specs.declared.Solution.{Solution}
+use Rattle.rows.specs.declared.Style.the-variants.{Places}
+use Rattle.rows.specs.Rows.{rowPieces, endPieces}
 
--- ---- a line at the front of a lent buffer
+-- a label, and numbers to six places
+abbrev pub labelled : List ℕ → List Float → List (List ℕ)
+labelled label xs = label ∷ rowPieces Places xs
 
-abbrev pub made : Bool → List ℕ → List ℕ → List ℕ → ℕ → Type 0
-made true x d e r = (r ≡ 0) × (e ≡ d)
-made false x d e r = (r ≡ length x) × (e ≡ x ++ drop (length x) d)
+-- a word, a whole number, and the line's end
+unfoldable pub countedPieces : List ℕ → ℕ → List (List ℕ)
+countedPieces word n = word ∷ decimal n ∷ ascii "\n" ∷ []
 
--- the line x at the front of d and its length, or 0 for a buffer under 512 bytes, which stays as it was
-abbrev pub Line : List ℕ → List ℕ → List ℕ → ℕ → Type 0
-Line x d e r = made (ltb (length d) 512) x d e r
+abbrev pub refusedPieces : ℕ → List (List ℕ)
+refusedPieces n = countedPieces (ascii "refused ") n
 
--- ---- numbers in a row, a blank before each
-
-unfoldable pub rowText : (Float → List ℕ) → List Float → List ℕ
-rowText text [] = []
-rowText text (x ∷ xs) = (32 ∷ text x) ++ rowText text xs
-
-abbrev pub figuresText : List Float → List ℕ
-figuresText xs = rowText fixedOf xs
-
-abbrev pub bitsText : List Float → List ℕ
-bitsText xs = rowText bitsOf xs
-
--- what stands behind the decimals: ` bits X ..`
-abbrev pub endText : List Float → List ℕ
-endText xs = ((32 ∷ 98 ∷ 105 ∷ 116 ∷ 115 ∷ []) ++ bitsText xs) ++ (10 ∷ [])
-
--- ---- the lines
+abbrev pub unreadPieces : ℕ → List (List ℕ)
+unreadPieces w = countedPieces (ascii "unread ") w
 
 -- `NAME D bits X`
-abbrev pub oneText : List ℕ → Float → List ℕ
-oneText name x = (name ++ figuresText (x ∷ [])) ++ endText (x ∷ [])
-
--- `value D bits X`
-abbrev pub valueText : Float → List ℕ
-valueText x = oneText (118 ∷ 97 ∷ 108 ∷ 117 ∷ 101 ∷ []) x
-
--- `time D bits X`
-abbrev pub timeText : Float → List ℕ
-timeText x = oneText (116 ∷ 105 ∷ 109 ∷ 101 ∷ []) x
-
--- `open near D bits X`
-abbrev pub openText : Float → List ℕ
-openText near = oneText (111 ∷ 112 ∷ 101 ∷ 110 ∷ 32 ∷ 110 ∷ 101 ∷ 97 ∷ 114 ∷ []) near
+unfoldable pub onePieces : List ℕ → Float → List (List ℕ)
+onePieces name x = labelled name (x ∷ []) ++ endPieces (x ∷ [])
 
 -- `closed near D far D bits X X`
-abbrev pub closedText : Float → Float → List ℕ
-closedText near far =
-    (((99 ∷ 108 ∷ 111 ∷ 115 ∷ 101 ∷ 100 ∷ 32 ∷ 110 ∷ 101 ∷ 97 ∷ 114 ∷ []) ++ figuresText (near ∷ []))
-    ++ ((32 ∷ 102 ∷ 97 ∷ 114 ∷ []) ++ figuresText (far ∷ [])))
-    ++ endText (near ∷ far ∷ [])
+unfoldable pub closedPieces : Float → Float → List (List ℕ)
+closedPieces near far = labelled (ascii "closed near") (near ∷ []) ++ (labelled (ascii " far") (far ∷ []) ++ endPieces (near ∷ far ∷ []))
 
 -- `point N`
-abbrev pub pointText : ℤ → List ℕ
-pointText n = ((112 ∷ 111 ∷ 105 ∷ 110 ∷ 116 ∷ 32 ∷ []) ++ signedText n) ++ (10 ∷ [])
+unfoldable pub pointPieces : ℤ → List (List ℕ)
+pointPieces n = ascii "point " ∷ signedText n ∷ ascii "\n" ∷ []
 
--- `none`
-abbrev pub noneText : List ℕ
-noneText = 110 ∷ 111 ∷ 110 ∷ 101 ∷ 10 ∷ []
+abbrev pub nonePieces : List (List ℕ)
+nonePieces = ascii "none\n" ∷ []
 
--- `refused N`
-abbrev pub refusedText : ℕ → List ℕ
-refusedText n = ((114 ∷ 101 ∷ 102 ∷ 117 ∷ 115 ∷ 101 ∷ 100 ∷ 32 ∷ []) ++ decimal n) ++ (10 ∷ [])
+-- ---- a solution
 
--- `unread W`
-abbrev pub unreadText : ℕ → List ℕ
-unreadText w = ((117 ∷ 110 ∷ 114 ∷ 101 ∷ 97 ∷ 100 ∷ 32 ∷ []) ++ decimal w) ++ (10 ∷ [])
+abbrev pub gradeText : Grade → List ℕ
+gradeText Closed = ascii "closed"
+gradeText Fair = ascii "fair"
+gradeText Rough = ascii "rough"
+
+-- `done n N count K`
+unfoldable pub countPieces : ℤ → ℕ → List (List ℕ)
+countPieces n count = ascii "done n " ∷ signedText n ∷ ascii " count " ∷ decimal count ∷ []
+
+-- ` time D err D`
+unfoldable pub timesPieces : Float → Float → List (List ℕ)
+timesPieces t err = labelled (ascii " time") (t ∷ []) ++ labelled (ascii " err") (err ∷ [])
+
+-- `done n N count K grade G time D err D`
+unfoldable pub donePieces : Solution → List (List ℕ)
+donePieces x = countPieces (x .n) (x .count) ++ (ascii " grade " ∷ gradeText (x .grade) ∷ timesPieces (x .t) (x .err))
+
+-- ` v D D D`
+abbrev pub velocityPieces : Float → Float → Float → List (List ℕ)
+velocityPieces x y z = labelled (ascii " v") (x ∷ y ∷ z ∷ [])
+
+-- `done .. r D D D v D D D bits X X X X X X X X`
+unfoldable pub orbitPieces : State → Solution → List (List ℕ)
+orbitPieces s x =
+    donePieces x
+    ++ (labelled (ascii " r") (s .rx ∷ s .ry ∷ s .rz ∷ [])
+    ++ (velocityPieces (s .vx) (s .vy) (s .vz)
+    ++ endPieces (x .t ∷ x .err ∷ s .rx ∷ s .ry ∷ s .rz ∷ s .vx ∷ s .vy ∷ s .vz ∷ [])))
+
+-- `done .. v D D D bits X X X X X`
+unfoldable pub transferPieces : Vector → Solution → List (List ℕ)
+transferPieces v x = donePieces x ++ (velocityPieces (v .x) (v .y) (v .z) ++ endPieces (x .t ∷ x .err ∷ v .x ∷ v .y ∷ v .z ∷ []))

@@ -1,7 +1,7 @@
 -- A form says what words a line is to have and what they make; here is how a line is read by one. Each word is read once,
 -- and the first that cannot be read is told by its number, the line's first word being 1. Assumes nothing: these are definitions.
-use Prim.Native.Nat.{ℕ, _+_}
-use mathlib.Core.Bool.{cond}
+use Prim.Native.Nat.{ℕ, zero, suc, _+_}
+use mathlib.Core.Bool.{Bool, cond}
 use mathlib.Core.List.{List, [], _∷_}
 use lib.ListN.{length}
 use lib.Dec.{eqb}
@@ -51,12 +51,21 @@ abbrev pub byJudged : Judged → (Judgement → Request) → Request → Request
 byJudged (J.Read j) go bad = go j
 byJudged J.Unread go bad = bad
 
+-- no word stands behind the first k words
+abbrev pub isEnd : ℕ → List ℕ → Bool
+isEnd k line = eqb (length (wordAt k line)) 0
+
 -- the request of a line whose first k words are read. A missing word is empty, and no number, judgement or name is.
 unfoldable pub readBy : Form → ℕ → List ℕ → Request
-readBy (end x) k line = cond (eqb (length (wordAt k line)) 0) x (Unread (k + 1))
+readBy (end x) k line = cond (isEnd k line) x (Unread (k + 1))
 readBy (number go) k line = byNumber (numberOf (wordAt k line)) (λ (x : Float). readBy (go x) (k + 1) line) (Unread (k + 1))
 readBy (signed go) k line = bySigned (signedOf (wordAt k line)) (λ (z : ℤ). readBy (go z) (k + 1) line) (Unread (k + 1))
 readBy (whole go) k line = byWhole (wholeOf (wordAt k line)) (λ (n : ℕ). readBy (go n) (k + 1) line) (Unread (k + 1))
 readBy (judgement go) k line = byJudged (judgedOf (wordAt k line)) (λ (j : Judgement). readBy (go j) (k + 1) line) (Unread (k + 1))
-readBy (word w yes other) k line = cond (isWord (wordAt k line) w) (readBy yes (k + 1) line) (readBy other k line)
+readBy (word w next other) k line = cond (isWord (wordAt k line) w) (readBy next (k + 1) line) (readBy other k line)
 readBy none k line = Unread (k + 1)
+
+-- n numbers, and what follows them
+unfoldable pub numbers : ℕ → (List Float → Form) → Form
+numbers zero go = go []
+numbers (suc n) go = number λ x. numbers n (λ (xs : List Float). go (x ∷ xs))

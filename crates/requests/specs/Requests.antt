@@ -1,14 +1,16 @@
 -- What the desk can be asked: one table, a form for each routine. Assumes nothing: these are definitions.
-use Prim.Native.Nat.{ℕ, _+_}
+use Prim.Native.Nat.{ℕ}
 use mathlib.Core.Bool.{Bool, cond}
-use mathlib.Core.List.{List, [], _∷_}
+use mathlib.Core.List.{List}
 use lib.ListN.{length, getD}
 use lib.Dec.{eqb, ltb}
+use lib.IntN.{ℤ}
 use lib.Ieee.{Float}
 use Rattle.text.specs.Text.{ascii}
 use Rattle.vector.specs.declared.Vector.{Vector}
 use Rattle.vector.specs.declared.State.{State}
 use Rattle.vector.specs.Vectors.{stateOf}
+use Rattle.iterator.specs.declared.Judgement.{Judgement}
 use Rattle.lambert.specs.declared.Way.{Way}
 use Rattle.lambert.specs.declared.Way.the-variants.{Short, Long}
 use Rattle.words.specs.Words.{wordAt}
@@ -43,8 +45,17 @@ cForm = number λ xi. end (Q.C xi)
 abbrev pub sForm : Form
 sForm = number λ xi. end (Q.S xi)
 
+abbrev pub trialCounted : Float → ℤ → ℤ → Judgement → Judgement → Form
+trialCounted asked lo hi below above = whole λ k. end (Q.Trial asked lo hi below above k)
+
+abbrev pub trialJudged : Float → ℤ → ℤ → Form
+trialJudged asked lo hi = judgement λ below. judgement λ above. trialCounted asked lo hi below above
+
+abbrev pub trialBetween : Float → Form
+trialBetween asked = signed λ lo. signed λ hi. trialJudged asked lo hi
+
 abbrev pub trialForm : Form
-trialForm = number λ asked. signed λ lo. signed λ hi. judgement λ below. judgement λ above. whole λ k. end (Q.Trial asked lo hi below above k)
+trialForm = number λ asked. trialBetween asked
 
 abbrev pub keplerForm : Form
 keplerForm = orbit λ mu state. number λ time. end (Q.Kepler mu state time)

@@ -1,38 +1,64 @@
-// Parts of a line, each word read once: what they say, or the number of the first word that cannot be read. The part
-// begins behind the line's first k words.
+// Parts of a line, each word read once.
 ghost use Prim.Native.Nat.{_<_};
 ghost use mathlib.Core.Path.{_≡_};
+ghost use lib.ListN.{length};
 ghost use Rattle.words.specs.Words.{wordAt};
-ghost use Rattle.numerals.specs.Numbers.{numberOf, signedOf};
+ghost use Rattle.numerals.specs.Numbers.{signedOf};
 ghost use Rattle.requests.specs.Judgements.{judgedOf};
-ghost use Rattle.requests.specs.Forms.{Form, readBy};
-ghost use Rattle.requests.specs.Parts.{ReadsAlone, ReadsEnds, ReadsSides, ReadsTriple, ReadsThree};
+ghost use Rattle.requests.specs.Forms.{isEnd};
+ghost use Rattle.requests.specs.Parts.{Numbers, OnlyNumbers, ReadsEnds, ReadsSides, ReadsWay};
 use crate::judgement::Judged;
 use crate::judgement::read_judgement;
-use crate::request::Request;
 use iterator::Judgement;
+use lambert::Way;
 use numerals::Number;
 use numerals::Signed;
-use vector::Vector;
 
-// No word more: the request stands.
-pub fn ended(line: &[u8], k: u64, request: Request) -> Request
-    requires { ⌜ k < 100 ⌝ }
-    ensures { λ r. ⌜ r ≡ readBy (Form.end request) k (now (line .entry)) ⌝ }
+// Whether the line has no word behind its first k words.
+pub fn is_end(line: &[u8], k: u64) -> bool
+    ensures { λ r. ⌜ r ≡ isEnd k (now (line .entry)) ⌝ }
 {
-    if words::word(line, k).len() == 0 {
-        return request;
+    words::word(line, k).len() == 0
+}
+
+// Numbers behind the name, as many as there is room for: 0, or the number of the first word that is none.
+pub fn numbers(line: &[u8], xs: &mut [f64]) -> u64
+    requires { ⌜ length (now xs) < 100 ⌝ }
+    ensures { λ r. ⌜ Numbers (now (xs .exit)) r (now (line .entry)) ⌝ }
+{
+    let mut i = 0;
+    while i < xs.len() {
+        let k = i as u64 + 1;
+        match numerals::read_number(words::word(line, k)) {
+            Number::Read(x) => {
+                xs[i] = x;
+                i += 1;
+            }
+            Number::Unread => {
+                return k + 1;
+            }
+        }
     }
-    Request::Unread(k + 1)
+    0
 }
 
-pub fn number_at(line: &[u8], k: u64) -> Number
-    ensures { λ r. ⌜ r ≡ numberOf (wordAt k (now (line .entry))) ⌝ }
+// The same, and no word more.
+pub fn only_numbers(line: &[u8], xs: &mut [f64]) -> u64
+    requires { ⌜ length (now xs) < 100 ⌝ }
+    ensures { λ r. ⌜ OnlyNumbers (now (xs .exit)) r (now (line .entry)) ⌝ }
 {
-    numerals::read_number(words::word(line, k))
+    let w = numbers(line, xs);
+    if w != 0 {
+        return w;
+    }
+    let k = xs.len() as u64 + 1;
+    if is_end(line, k) {
+        return 0;
+    }
+    k + 1
 }
 
-pub fn signed_at(line: &[u8], k: u64) -> Signed
+fn signed_at(line: &[u8], k: u64) -> Signed
     ensures { λ r. ⌜ r ≡ signedOf (wordAt k (now (line .entry))) ⌝ }
 {
     numerals::read_signed(words::word(line, k))
@@ -44,27 +70,7 @@ fn judgement_at(line: &[u8], k: u64) -> Judged
     read_judgement(words::word(line, k))
 }
 
-// One number behind the name, and no word more.
-pub enum Alone {
-    Read(f64),
-    Unread(u64),
-}
-
-pub fn alone(line: &[u8]) -> Alone
-    ensures { λ r. ⌜ ReadsAlone r (now (line .entry)) ⌝ }
-{
-    match number_at(line, 1) {
-        Number::Read(x) => {
-            if words::word(line, 2).len() == 0 {
-                return Alone::Read(x);
-            }
-            Alone::Unread(3)
-        }
-        Number::Unread => Alone::Unread(2),
-    }
-}
-
-// Two places on the grid.
+// Two places on the grid behind the first k words, or the number of the first word that is none.
 pub enum Ends {
     Read(i64, i64),
     Unread(u64),
@@ -83,7 +89,7 @@ pub fn ends_at(line: &[u8], k: u64) -> Ends
     }
 }
 
-// The judgements of two places.
+// The judgements of two places, likewise.
 pub enum Sides {
     Read(Judgement, Judgement),
     Unread(u64),
@@ -102,45 +108,21 @@ pub fn sides_at(line: &[u8], k: u64) -> Sides
     }
 }
 
-// A vector.
-pub enum Triple {
-    Read(Vector),
-    Unread(u64),
+// The way round behind the first k words.
+pub enum Round {
+    Read(Way),
+    Unread,
 }
 
-pub fn triple_at(line: &[u8], k: u64) -> Triple
-    requires { ⌜ k < 100 ⌝ }
-    ensures { λ r. ⌜ ReadsTriple r k (now (line .entry)) ⌝ }
+pub fn way_at(line: &[u8], k: u64) -> Round
+    ensures { λ r. ⌜ ReadsWay r k (now (line .entry)) ⌝ }
 {
-    match number_at(line, k) {
-        Number::Read(x) => match number_at(line, k + 1) {
-            Number::Read(y) => match number_at(line, k + 2) {
-                Number::Read(z) => Triple::Read(Vector { x, y, z }),
-                Number::Unread => Triple::Unread(k + 3),
-            },
-            Number::Unread => Triple::Unread(k + 2),
-        },
-        Number::Unread => Triple::Unread(k + 1),
+    let w = words::word(line, k);
+    if words::is_word(w, b"short") {
+        return Round::Read(Way::Short);
     }
-}
-
-// Behind the name, mu and two vectors.
-pub enum Three {
-    Read(f64, Vector, Vector),
-    Unread(u64),
-}
-
-pub fn three(line: &[u8]) -> Three
-    ensures { λ r. ⌜ ReadsThree r (now (line .entry)) ⌝ }
-{
-    match number_at(line, 1) {
-        Number::Read(mu) => match triple_at(line, 2) {
-            Triple::Read(a) => match triple_at(line, 5) {
-                Triple::Read(b) => Three::Read(mu, a, b),
-                Triple::Unread(k) => Three::Unread(k),
-            },
-            Triple::Unread(k) => Three::Unread(k),
-        },
-        Number::Unread => Three::Unread(2),
+    if words::is_word(w, b"long") {
+        return Round::Read(Way::Long);
     }
+    Round::Unread
 }

@@ -1,12 +1,10 @@
--- `put_count`: four texts, one behind the other, with room for the longest.
-use native.Mathlib.Omega.{arith}
-use lib.Dec.{lit≤}
+-- Four pieces. Assumes nothing.
 use mir.Syntax.{w64}
 use mir.Facts.{toZ-ofZ}
+use Rattle.text.specs.Pieces.{then}
+use Rattle.text.proofs.Lays.{one}
+use Rattle.answers.specs.Lines.{countPieces}
 use borrow.Author.Needs.{needs}
-use Rattle.answers.proofs.LineLaws.{number-short, signed-short}
-use Rattle.answers.proofs.DoneLaws.{Grown, and-put}
-use Rattle.answers.specs.Answers.{countText}
 use Rattle.answers.proofs.done.put_count.Statement.{statement}
 use Rattle.answers.proofs.done.put_count.Tie as tie
 
@@ -32,15 +30,10 @@ same-length : tie.Need-same-length
 same-length c = search needs
 
 returns : tie.Need-returns
-unfolding countText
+unfolding countPieces
 returns c =
-    let a = c .before .before .before .before .before .before .before .before .before .before .before .before .before .before .before .before .before .before .before .args in
-    let h = c .before .before .before .before .before .before .before .before .before .before .before .before .before .before .before .before .before .before .before .pre in
-    let z = toZ-ofZ {w = w64} {z = a .n} (c .before .before .before .before .before .before .before .before .before .before .before .before .before .before .before .before .before .before .before .fits .n) in
-    let g1 : Grown _ _ _ _ 7 = record { stands = c .before .before .before .before .before .before .before .before .before .before .before .before .before .before .before .bytes .ensures .fits (omega (arith, c .before .before .before .before .before .before .before .before .before .before .before .before .before .before .before .before .before .before .before .pre)); short = lit≤ tt } in
-    let g2 = and-put h g1 21 (signed-short (a .n)) (lit≤ tt) (rw z at (c .before .before .before .before .before .before .before .before .before .before .before .signed .ensures)) in
-    let g3 = and-put h g2 7 (lit≤ tt) (lit≤ tt) (c .before .before .before .before .before .before .bytes2 .ensures) in
-    and-put h g3 20 (number-short (a .count)) (lit≤ tt) (c .before .before .number .ensures) .stands
+    let z = toZ-ofZ {w = w64} {z = c .before .before .before .before .before .before .before .before .before .before .before .before .before .before .before .before .before .before .before .args .n} (c .before .before .before .before .before .before .before .before .before .before .before .before .before .before .before .before .before .before .before .fits .n) in
+    then (c .before .before .before .before .before .before .before .before .before .before .before .before .before .before .before .bytes .ensures) (then (rw z at (c .before .before .before .before .before .before .before .before .before .before .before .signed .ensures)) (then (c .before .before .before .before .before .before .bytes2 .ensures) (one (c .before .before .number .ensures))))
 
 pub put-count-spec : {M : Type 1} → statement M
 put-count-spec =

@@ -1,11 +1,10 @@
--- `put_done`: the count, and the grade behind it.
-use lib.Dec.{lit≤}
+-- The count, the grade and the times. Assumes nothing.
 use mir.Syntax.{w64}
 use mir.Facts.{toZ-ofZ}
+use Rattle.text.specs.Pieces.{then}
+use Rattle.text.proofs.Lays.{and-then}
+use Rattle.answers.specs.Lines.{donePieces}
 use borrow.Author.Needs.{needs}
-use Rattle.text.proofs.Stand.{then}
-use Rattle.answers.proofs.DoneLaws.{Grown, room, and-put, count-short}
-use Rattle.answers.specs.Answers.{countText, doneText}
 use Rattle.answers.proofs.done.put_done.Statement.{statement}
 use Rattle.answers.proofs.done.put_done.Tie as tie
 
@@ -19,26 +18,19 @@ bytes-requires : tie.Need-bytes-requires
 bytes-requires c κs = search needs
 
 put-grade-requires : tie.Need-put-grade-requires
-put-grade-requires c κs =
-    let x = c .before .before .before .before .before .before .before .before .before .before .before .before .args .x in
-    let h = c .before .before .before .before .before .before .before .before .before .before .before .before .pre in
-    let z = toZ-ofZ {w = w64} {z = x .n} (record { sfits = c .before .before .before .before .before .before .before .before .before .struct-told .given .0 .1 }) in
-    let g1 : Grown _ (countText (x .n) (x .count)) _ _ 55 = record { stands = rw z at (c .before .before .before .before .before .before .before .before .put-count .ensures); short = count-short (x .n) (x .count) } in
-    let g2 = and-put h g1 7 (lit≤ tt) (lit≤ tt) (c .before .before .before .bytes .ensures) in
-    room h g2 6 (lit≤ tt)
+put-grade-requires c κs = search needs
+
+put-times-requires : tie.Need-put-times-requires
+put-times-requires c κs = search needs
 
 same-length : tie.Need-same-length
 same-length c = search needs
 
 returns : tie.Need-returns
-unfolding doneText
+unfolding donePieces
 returns c =
-    let x = c .before .before .before .before .before .before .before .before .before .before .before .before .before .before .before .args .x in
-    let h = c .before .before .before .before .before .before .before .before .before .before .before .before .before .before .before .pre in
-    let z = toZ-ofZ {w = w64} {z = x .n} (record { sfits = c .before .before .before .before .before .before .before .before .before .before .before .before .struct-told .given .0 .1 }) in
-    let g1 : Grown _ (countText (x .n) (x .count)) _ _ 55 = record { stands = rw z at (c .before .before .before .before .before .before .before .before .before .before .before .put-count .ensures); short = count-short (x .n) (x .count) } in
-    let g2 = and-put h g1 7 (lit≤ tt) (lit≤ tt) (c .before .before .before .before .before .before .bytes .ensures) in
-    then (g2 .stands) (c .before .before .put-grade .ensures)
+    let z = toZ-ofZ {w = w64} {z = c .before .before .before .before .before .before .before .before .before .before .before .before .before .before .before .before .before .before .before .args .x .n} (record { sfits = c .before .before .before .before .before .before .before .before .before .before .before .before .before .before .before .before .struct-told .given .0 .1 }) in
+    and-then (rw z at (c .before .before .before .before .before .before .before .before .before .before .before .before .before .before .before .put-count .ensures)) (then (c .before .before .before .before .before .before .before .before .before .before .bytes .ensures) (then (c .before .before .before .before .before .before .put-grade .ensures) (c .before .before .put-times .ensures)))
 
 pub put-done-spec : {M : Type 1} → statement M
 put-done-spec =
@@ -48,5 +40,6 @@ put-done-spec =
     slice-aggregate-bytes
     bytes-requires
     put-grade-requires
+    put-times-requires
     same-length
     returns)

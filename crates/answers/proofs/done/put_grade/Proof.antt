@@ -1,5 +1,4 @@
--- `put_grade`: by the grade.
-use native.Mathlib.Omega.{arith}
+-- By the grade. Assumes nothing.
 use borrow.Author.Needs.{needs}
 use Rattle.answers.proofs.done.put_grade.Statement.{statement}
 use Rattle.answers.proofs.done.put_grade.Tie as tie
@@ -35,19 +34,19 @@ same-length : tie.Need-same-length
 same-length c = search needs
 
 returns : tie.Need-returns
-returns c = rw (c .before .before .before .before .before .enum-told .given .1) (c .before .before .bytes .ensures .fits (omega (arith, c .before .before .before .before .before .before .before .before .pre)))
+returns c = rw (c .before .before .before .before .before .enum-told .given .1) (c .before .before .bytes .ensures)
 
 same-length-2 : tie.Need-same-length-2
 same-length-2 c = search needs
 
 returns-2 : tie.Need-returns-2
-returns-2 c = rw (c .before .before .before .before .before .enum-told2 .given .1) (c .before .before .bytes2 .ensures .fits (omega (arith, c .before .before .before .before .before .before .before .before .pre)))
+returns-2 c = rw (c .before .before .before .before .before .enum-told2 .given .1) (c .before .before .bytes2 .ensures)
 
 same-length-3 : tie.Need-same-length-3
 same-length-3 c = search needs
 
 returns-3 : tie.Need-returns-3
-returns-3 c = rw (c .before .before .before .before .before .enum-told3 .given .1) (c .before .before .bytes3 .ensures .fits (omega (arith, c .before .before .before .before .before .before .before .before .pre)))
+returns-3 c = rw (c .before .before .before .before .before .enum-told3 .given .1) (c .before .before .bytes3 .ensures)
 
 pub put-grade-spec : {M : Type 1} → statement M
 put-grade-spec =

@@ -1,48 +1,44 @@
--- `put_times`: two labelled numbers.
-use native.Mathlib.Omega.{arith}
+-- Two labelled numbers. Assumes nothing.
+use Rattle.text.proofs.Lays.{and-then}
+use Rattle.answers.specs.Lines.{timesPieces}
 use borrow.Author.Needs.{needs}
-use Rattle.text.proofs.Stand.{then, same-size}
-use Rattle.answers.proofs.DoneLaws.{row-of-one}
-use Rattle.answers.specs.Answers.{timesText}
 use Rattle.answers.proofs.done.put_times.Statement.{statement}
 use Rattle.answers.proofs.done.put_times.Tie as tie
 
-slice-aggregate-put-labelled : tie.Need-slice-aggregate-put-labelled
-slice-aggregate-put-labelled c = search needs
+slice-aggregate-labelled : tie.Need-slice-aggregate-labelled
+slice-aggregate-labelled c = search needs
 
-slice-aggregate-put-labelled-2 : tie.Need-slice-aggregate-put-labelled-2
-slice-aggregate-put-labelled-2 c = search needs
+slice-aggregate-labelled-2 : tie.Need-slice-aggregate-labelled-2
+slice-aggregate-labelled-2 c = search needs
 
-put-labelled-requires : tie.Need-put-labelled-requires
-put-labelled-requires c κs = search needs
+labelled-requires : tie.Need-labelled-requires
+labelled-requires c κs = search needs
 
-slice-aggregate-put-labelled-3 : tie.Need-slice-aggregate-put-labelled-3
-slice-aggregate-put-labelled-3 c = search needs
+slice-aggregate-labelled-3 : tie.Need-slice-aggregate-labelled-3
+slice-aggregate-labelled-3 c = search needs
 
-slice-aggregate-put-labelled-4 : tie.Need-slice-aggregate-put-labelled-4
-slice-aggregate-put-labelled-4 c = search needs
+slice-aggregate-labelled-4 : tie.Need-slice-aggregate-labelled-4
+slice-aggregate-labelled-4 c = search needs
 
-put-labelled-requires-2 : tie.Need-put-labelled-requires-2
-put-labelled-requires-2 c κs =
-    let p = c .before .before .before .before .before .put-labelled .ensures in
-    omega (arith, c .before .before .before .before .before .before .before .before .before .before .pre, p .next, same-size p, row-of-one (c .before .before .before .before .before .before .before .before .before .before .args .t))
+labelled-requires-2 : tie.Need-labelled-requires-2
+labelled-requires-2 c κs = search needs
 
 same-length : tie.Need-same-length
 same-length c = search needs
 
 returns : tie.Need-returns
-unfolding timesText
-returns c = then (c .before .before .before .before .before .before .before .before .put-labelled .ensures) (c .before .before .put-labelled2 .ensures)
+unfolding timesPieces
+returns c = and-then (c .before .before .before .before .before .before .before .before .labelled .ensures) (c .before .before .labelled2 .ensures)
 
 pub put-times-spec : {M : Type 1} → statement M
 put-times-spec =
     tie.close
     (tie.spec
-    slice-aggregate-put-labelled
-    slice-aggregate-put-labelled-2
-    put-labelled-requires
-    slice-aggregate-put-labelled-3
-    slice-aggregate-put-labelled-4
-    put-labelled-requires-2
+    slice-aggregate-labelled
+    slice-aggregate-labelled-2
+    labelled-requires
+    slice-aggregate-labelled-3
+    slice-aggregate-labelled-4
+    labelled-requires-2
     same-length
     returns)

@@ -1,4 +1,5 @@
--- `tell_apsides`: by the answer's case.
+-- By the answer's case. Assumes nothing.
+use Rattle.apsides.specs.Apsides.{numberOf}
 use borrow.Author.Needs.{needs}
 use Rattle.answers.proofs.told.tell_apsides.Statement.{statement}
 use Rattle.answers.proofs.told.tell_apsides.Tie as tie
@@ -6,14 +7,17 @@ use Rattle.answers.proofs.told.tell_apsides.Tie as tie
 enum-known-a : tie.Need-enum-known-a
 enum-known-a c = search needs
 
-closed-orbit-requires : tie.Need-closed-orbit-requires
-closed-orbit-requires c κs = search needs
+closed-requires : tie.Need-closed-requires
+closed-requires c κs = search needs
 
 enum-known-a-2 : tie.Need-enum-known-a-2
 enum-known-a-2 c = search needs
 
-open-orbit-requires : tie.Need-open-orbit-requires
-open-orbit-requires c κs = search needs
+slice-aggregate-one : tie.Need-slice-aggregate-one
+slice-aggregate-one c = search needs
+
+one-requires : tie.Need-one-requires
+one-requires c κs = search needs
 
 enum-known-a-3 : tie.Need-enum-known-a-3
 enum-known-a-3 c = search needs
@@ -25,18 +29,19 @@ same-length : tie.Need-same-length
 same-length c = search needs
 
 returns : tie.Need-returns
-returns c = rw (c .before .before .before .before .before .a .given .1) (c .before .before .closed-orbit .ensures)
+returns c = rw (c .before .before .before .before .before .a .given .1) (c .before .before .closed .ensures)
 
 same-length-2 : tie.Need-same-length-2
 same-length-2 c = search needs
 
 returns-2 : tie.Need-returns-2
-returns-2 c = rw (c .before .before .before .before .before .a2 .given .1) (c .before .before .open-orbit .ensures)
+returns-2 c = rw (c .before .before .before .before .before .before .a2 .given .1) (c .before .before .one .ensures)
 
 same-length-3 : tie.Need-same-length-3
 same-length-3 c = search needs
 
 returns-3 : tie.Need-returns-3
+unfolding numberOf
 returns-3 c = rw (c .before .before .before .before .before .a3 .given .1) (c .before .before .refused .ensures)
 
 pub tell-apsides-spec : {M : Type 1} → statement M
@@ -44,9 +49,10 @@ tell-apsides-spec =
     tie.close
     (tie.spec
     enum-known-a
-    closed-orbit-requires
+    closed-requires
     enum-known-a-2
-    open-orbit-requires
+    slice-aggregate-one
+    one-requires
     enum-known-a-3
     refused-requires
     same-length

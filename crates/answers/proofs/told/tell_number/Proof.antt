@@ -1,4 +1,4 @@
--- `tell_number`: by the answer's case.
+-- By the answer's case. Assumes nothing.
 use borrow.Author.Needs.{needs}
 use Rattle.answers.proofs.told.tell_number.Statement.{statement}
 use Rattle.answers.proofs.told.tell_number.Tie as tie
@@ -6,8 +6,11 @@ use Rattle.answers.proofs.told.tell_number.Tie as tie
 enum-known-a : tie.Need-enum-known-a
 enum-known-a c = search needs
 
-value-requires : tie.Need-value-requires
-value-requires c κs = search needs
+slice-aggregate-one : tie.Need-slice-aggregate-one
+slice-aggregate-one c = search needs
+
+one-requires : tie.Need-one-requires
+one-requires c κs = search needs
 
 enum-known-a-2 : tie.Need-enum-known-a-2
 enum-known-a-2 c = search needs
@@ -19,7 +22,7 @@ same-length : tie.Need-same-length
 same-length c = search needs
 
 returns : tie.Need-returns
-returns c = rw (c .before .before .before .before .before .a .given .1) (c .before .before .value .ensures)
+returns c = rw (c .before .before .before .before .before .before .a .given .1) (c .before .before .one .ensures)
 
 same-length-2 : tie.Need-same-length-2
 same-length-2 c = search needs
@@ -32,7 +35,8 @@ tell-number-spec =
     tie.close
     (tie.spec
     enum-known-a
-    value-requires
+    slice-aggregate-one
+    one-requires
     enum-known-a-2
     refused-requires
     same-length

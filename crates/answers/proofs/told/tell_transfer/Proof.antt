@@ -1,4 +1,5 @@
--- `tell_transfer`: by the answer's case.
+-- By the answer's case. Assumes nothing.
+use Rattle.solve.specs.Answers.{transferredNumber}
 use borrow.Author.Needs.{needs}
 use Rattle.answers.proofs.told.tell_transfer.Statement.{statement}
 use Rattle.answers.proofs.told.tell_transfer.Tie as tie
@@ -37,18 +38,21 @@ same-length-2 : tie.Need-same-length-2
 same-length-2 c = search needs
 
 returns-2 : tie.Need-returns-2
+unfolding transferredNumber
 returns-2 c = rw (c .before .before .before .before .enum-told .given .1) (c .before .before .refused .ensures)
 
 same-length-3 : tie.Need-same-length-3
 same-length-3 c = search needs
 
 returns-3 : tie.Need-returns-3
+unfolding transferredNumber
 returns-3 c = rw (c .before .before .before .before .enum-told2 .given .1) (c .before .before .refused2 .ensures)
 
 same-length-4 : tie.Need-same-length-4
 same-length-4 c = search needs
 
 returns-4 : tie.Need-returns-4
+unfolding transferredNumber
 returns-4 c = rw (c .before .before .before .before .before .a2 .given .1) (c .before .before .refused3 .ensures)
 
 pub tell-transfer-spec : {M : Type 1} → statement M

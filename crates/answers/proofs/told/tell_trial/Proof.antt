@@ -1,6 +1,7 @@
--- `tell_trial`: by the answer's case.
+-- By the answer's case. Assumes nothing.
 use mir.Syntax.{w64}
 use mir.Facts.{toZ-ofZ}
+use Rattle.text.proofs.Lays.{one as piece}
 use borrow.Author.Needs.{needs}
 use Rattle.answers.proofs.told.tell_trial.Statement.{statement}
 use Rattle.answers.proofs.told.tell_trial.Tie as tie
@@ -14,8 +15,11 @@ point-requires c κs = search needs
 enum-told : tie.Need-enum-told
 enum-told c = search needs
 
-none-requires : tie.Need-none-requires
-none-requires c κs = search needs
+slice-aggregate-bytes : tie.Need-slice-aggregate-bytes
+slice-aggregate-bytes c = search needs
+
+bytes-requires : tie.Need-bytes-requires
+bytes-requires c κs = search needs
 
 enum-known-a-2 : tie.Need-enum-known-a-2
 enum-known-a-2 c = search needs
@@ -35,7 +39,7 @@ same-length-2 : tie.Need-same-length-2
 same-length-2 c = search needs
 
 returns-2 : tie.Need-returns-2
-returns-2 c = rw (c .before .before .before .before .enum-told .given .1) (c .before .before .none .ensures)
+returns-2 c = rw (c .before .before .before .before .before .enum-told .given .1) (piece (c .before .before .bytes .ensures))
 
 same-length-3 : tie.Need-same-length-3
 same-length-3 c = search needs
@@ -50,7 +54,8 @@ tell-trial-spec =
     enum-known-a
     point-requires
     enum-told
-    none-requires
+    slice-aggregate-bytes
+    bytes-requires
     enum-known-a-2
     refused-requires
     same-length

@@ -1,0 +1,20 @@
+-- Numbers in a row, a blank before each. Assumes nothing: these are definitions.
+use Prim.Native.Nat.{ℕ}
+use mathlib.Core.List.{List, [], _∷_, _++_}
+use lib.Ieee.{Float}
+use Rattle.text.specs.Text.{ascii}
+use Rattle.figures.specs.Figures.{fixedOf, bitsOf}
+use Rattle.rows.specs.declared.Style.{Style}
+use Rattle.rows.specs.declared.Style.the-variants.{Places, Bits}
+
+unfoldable pub figureText : Style → Float → List ℕ
+figureText Places x = fixedOf x
+figureText Bits x = bitsOf x
+
+unfoldable pub rowPieces : Style → List Float → List (List ℕ)
+rowPieces style [] = []
+rowPieces style (x ∷ xs) = ascii " " ∷ figureText style x ∷ rowPieces style xs
+
+-- what stands behind the decimals: ` bits X ..`
+abbrev pub endPieces : List Float → List (List ℕ)
+endPieces xs = ascii " bits" ∷ (rowPieces Bits xs ++ (ascii "\n" ∷ []))
