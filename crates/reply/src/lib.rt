@@ -1,14 +1,15 @@
 // The desk: a line in, a line out.
-ghost use Rattle.answers.specs.Lines.{Line};
-ghost use Rattle.reply.specs.Replies.{replyText};
+ghost use Rattle.text.specs.Text.{InFront};
+ghost use Rattle.text.specs.Pieces.{Laid};
+ghost use Rattle.reply.specs.Replies.{room, replyOf, replyText};
 use requests::Request;
+use text::Made;
 
-// The reply to a line, made at the front of a lent buffer: its length, newline and all. 0 where nothing is asked, and
-// for a buffer of under 512 bytes; the buffer is then as it was.
-pub fn reply(line: &[u8], buf: &mut [u8]) -> usize
-    ensures { λ r. ⌜ Line (replyText (now (line .entry))) (now (buf .entry)) (now (buf .exit)) r ⌝ }
+// What is asked, answered at the front of a lent buffer.
+fn answered(buf: &mut [u8], request: Request) -> usize
+    ensures { λ r. ⌜ Laid (now (buf .entry)) 0 (replyOf request) (now (buf .exit)) r ⌝ }
 {
-    match requests::read(line) {
+    match request {
         Request::Nothing => 0,
         Request::Root(x) => answers::tell_number(buf, root::root(x)),
         Request::C(xi) => answers::tell_number(buf, series::c(xi)),
@@ -39,6 +40,17 @@ pub fn reply(line: &[u8], buf: &mut [u8]) -> usize
             cosine,
         } => answers::tell_time(buf, theta::time_theta(mu, state, sine, cosine)),
         Request::Apsides { mu, state } => answers::tell_apsides(buf, apsides::periapo(mu, state)),
-        Request::Unread(w) => answers::unread(buf, w),
+        Request::Unread(w) => answers::tell_unread(buf, w),
     }
+}
+
+// The reply to a line, newline and all, made at the front of a lent buffer: its length, which is 0 where nothing is
+// asked, or 15 for a buffer of under 512 bytes, which stays as it was.
+pub fn reply(line: &[u8], buf: &mut [u8]) -> Made
+    ensures { λ r. ⌜ InFront room (replyText (now (line .entry))) (now (buf .entry)) (now (buf .exit)) r ⌝ }
+{
+    if buf.len() < 512 {
+        return Made::Refused(15);
+    }
+    Made::Line(answered(buf, requests::read(line)))
 }
