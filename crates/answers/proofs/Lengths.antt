@@ -30,8 +30,8 @@ use Rattle.theta.specs.declared.TransferTime.the-variants as Ti
 use Rattle.apsides.specs.Apsides as Periapo
 use Rattle.apsides.specs.declared.Apsides.{Apsides}
 use Rattle.apsides.specs.declared.Apsides.the-variants as Ap
-use Rattle.rows.specs.Rows.{endPieces}
-use Rattle.rows.proofs.RowLaws.{row-short, end-short}
+use Rattle.columns.specs.Rows.{endPieces}
+use Rattle.columns.proofs.RowLaws.{row-short, end-short}
 use Rattle.answers.specs.Lines.{labelled, countedPieces, onePieces, closedPieces, pointPieces, gradeText, countPieces, timesPieces, donePieces, orbitPieces, transferPieces}
 use Rattle.answers.specs.Answers.{answerPieces, triedPieces, advancedPieces, transferredPieces, timedPieces, apsidesPieces}
 

@@ -9,8 +9,8 @@ use Rattle.vector.specs.declared.State.{State}
 use Rattle.solve.specs.declared.Grade.{Grade}
 use Rattle.solve.specs.declared.Grade.the-variants.{Closed, Fair, Rough}
 use Rattle.solve.specs.declared.Solution.{Solution}
-use Rattle.rows.specs.declared.Style.the-variants.{Places}
-use Rattle.rows.specs.Rows.{rowPieces, endPieces}
+use Rattle.columns.specs.declared.Style.the-variants.{Places}
+use Rattle.columns.specs.Rows.{rowPieces, endPieces}
 
 -- a label, and numbers to six places
 abbrev pub labelled : List ℕ → List Float → List (List ℕ)

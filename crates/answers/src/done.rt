@@ -32,8 +32,8 @@ fn put_times(buf: &mut [u8], at: usize, t: f64, err: f64) -> usize
 {
     let time = [t];
     let rest = [err];
-    let a = rows::labelled(buf, at, b" time", &time);
-    rows::labelled(buf, a, b" err", &rest)
+    let a = columns::labelled(buf, at, b" time", &time);
+    columns::labelled(buf, a, b" err", &rest)
 }
 
 fn put_done(buf: &mut [u8], x: Solution) -> usize
@@ -54,9 +54,9 @@ pub fn orbit(buf: &mut [u8], s: State, x: Solution) -> usize
     let v = [s.vx, s.vy, s.vz];
     let all = [x.t, x.err, s.rx, s.ry, s.rz, s.vx, s.vy, s.vz];
     let a = put_done(buf, x);
-    let b = rows::labelled(buf, a, b" r", &r);
-    let c = rows::labelled(buf, b, b" v", &v);
-    rows::end(buf, c, &all)
+    let b = columns::labelled(buf, a, b" r", &r);
+    let c = columns::labelled(buf, b, b" v", &v);
+    columns::end(buf, c, &all)
 }
 
 // The velocity that a transfer needs.
@@ -66,6 +66,6 @@ pub fn velocity(buf: &mut [u8], v: Vector, x: Solution) -> usize
     let three = [v.x, v.y, v.z];
     let all = [x.t, x.err, v.x, v.y, v.z];
     let a = put_done(buf, x);
-    let b = rows::labelled(buf, a, b" v", &three);
-    rows::end(buf, b, &all)
+    let b = columns::labelled(buf, a, b" v", &three);
+    columns::end(buf, b, &all)
 }

@@ -29,8 +29,8 @@ pub fn one(buf: &mut [u8], name: &[u8], x: f64) -> usize
     ensures { λ r. ⌜ Laid (now (buf .entry)) 0 (onePieces (now (name .entry)) x) (now (buf .exit)) r ⌝ }
 {
     let xs = [x];
-    let a = rows::labelled(buf, 0, name, &xs);
-    rows::end(buf, a, &xs)
+    let a = columns::labelled(buf, 0, name, &xs);
+    columns::end(buf, a, &xs)
 }
 
 // The apsides of a closed orbit.
@@ -40,9 +40,9 @@ pub fn closed(buf: &mut [u8], near: f64, far: f64) -> usize
     let first = [near];
     let second = [far];
     let both = [near, far];
-    let a = rows::labelled(buf, 0, b"closed near", &first);
-    let b = rows::labelled(buf, a, b" far", &second);
-    rows::end(buf, b, &both)
+    let a = columns::labelled(buf, 0, b"closed near", &first);
+    let b = columns::labelled(buf, a, b" far", &second);
+    columns::end(buf, b, &both)
 }
 
 // A trial's point.

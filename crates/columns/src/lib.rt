@@ -3,7 +3,7 @@
 ghost use mathlib.Core.List.{_++_, _∷_};
 ghost use Rattle.text.specs.Text.{Put};
 ghost use Rattle.text.specs.Pieces.{Laid};
-ghost use Rattle.rows.specs.Rows.{figureText, rowPieces, endPieces};
+ghost use Rattle.columns.specs.Rows.{figureText, rowPieces, endPieces};
 
 // A number to six places, or its bits.
 pub enum Style {

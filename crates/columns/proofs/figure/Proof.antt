@@ -1,8 +1,8 @@
 -- Each style by its own routine. Assumes nothing.
-use Rattle.rows.specs.Rows.{figureText}
+use Rattle.columns.specs.Rows.{figureText}
 use borrow.Author.Needs.{needs}
-use Rattle.rows.proofs.figure.Statement.{statement}
-use Rattle.rows.proofs.figure.Tie as tie
+use Rattle.columns.proofs.figure.Statement.{statement}
+use Rattle.columns.proofs.figure.Tie as tie
 
 enum-told : tie.Need-enum-told
 enum-told c = search needs

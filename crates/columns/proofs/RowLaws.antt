@@ -12,9 +12,9 @@ use Rattle.text.specs.Text.{ascii, Put}
 use Rattle.text.specs.Pieces.{concat, Laid, end, then}
 use Rattle.text.proofs.Lays.{and-then, concat-append}
 use Rattle.figures.proofs.Lengths.{fixed-short, bits-short}
-use Rattle.rows.specs.declared.Style.{Style}
-use Rattle.rows.specs.declared.Style.the-variants.{Places, Bits}
-use Rattle.rows.specs.Rows.{figureText, rowPieces, endPieces}
+use Rattle.columns.specs.declared.Style.{Style}
+use Rattle.columns.specs.declared.Style.the-variants.{Places, Bits}
+use Rattle.columns.specs.Rows.{figureText, rowPieces, endPieces}
 
 row-append : (style : Style) (xs ys : List Float) → rowPieces style (xs ++ ys) ≡ rowPieces style xs ++ rowPieces style ys
 unfolding rowPieces

@@ -1,8 +1,8 @@
 -- The label, and the row behind it. Assumes nothing.
 use Rattle.text.specs.Pieces.{then}
 use borrow.Author.Needs.{needs}
-use Rattle.rows.proofs.labelled.Statement.{statement}
-use Rattle.rows.proofs.labelled.Tie as tie
+use Rattle.columns.proofs.labelled.Statement.{statement}
+use Rattle.columns.proofs.labelled.Tie as tie
 
 bytes-requires : tie.Need-bytes-requires
 bytes-requires c κs = search needs

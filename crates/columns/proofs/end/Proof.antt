@@ -2,8 +2,8 @@
 use Rattle.text.specs.Pieces.{then}
 use Rattle.text.proofs.Lays.{one, and-then}
 use borrow.Author.Needs.{needs}
-use Rattle.rows.proofs.end.Statement.{statement}
-use Rattle.rows.proofs.end.Tie as tie
+use Rattle.columns.proofs.end.Statement.{statement}
+use Rattle.columns.proofs.end.Tie as tie
 
 slice-aggregate-bytes : tie.Need-slice-aggregate-bytes
 slice-aggregate-bytes c = search needs

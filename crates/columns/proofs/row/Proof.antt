@@ -2,10 +2,10 @@
 use Prim.Native.Nat.{_-_}
 use lib.ListN.{length}
 use Rattle.text.proofs.Lays.{laid-size}
-use Rattle.rows.proofs.RowLaws.{Row, row-start, row-more, row-whole}
+use Rattle.columns.proofs.RowLaws.{Row, row-start, row-more, row-whole}
 use native.Mathlib.Omega.{arith}
-use Rattle.rows.proofs.row.Statement.{statement}
-use Rattle.rows.proofs.row.Tie as tie
+use Rattle.columns.proofs.row.Statement.{statement}
+use Rattle.columns.proofs.row.Tie as tie
 
 abbrev Inv-loop : tie.InvT-loop
 Inv-loop buf₀ at style xs e₀ i₀ buf e i = Row style buf₀ at xs buf e i

@@ -4,8 +4,8 @@ use mathlib.Core.List.{List, [], _∷_, _++_}
 use lib.Ieee.{Float}
 use Rattle.text.specs.Text.{ascii}
 use Rattle.figures.specs.Figures.{fixedOf, bitsOf}
-use Rattle.rows.specs.declared.Style.{Style}
-use Rattle.rows.specs.declared.Style.the-variants.{Places, Bits}
+use Rattle.columns.specs.declared.Style.{Style}
+use Rattle.columns.specs.declared.Style.the-variants.{Places, Bits}
 
 unfoldable pub figureText : Style → Float → List ℕ
 figureText Places x = fixedOf x
