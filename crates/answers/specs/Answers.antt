@@ -1,23 +1,38 @@
--- Each routine's answer as a line, a refusal by its number. Assumes nothing: these are definitions.
+-- The other routines' answers as lines, piece by piece: decimals for people, then `bits` and the same numbers exactly; a
+-- refusal by its number. Assumes nothing: these are definitions.
 use Prim.Native.Nat.{ℕ}
-use mathlib.Core.List.{List}
-use Rattle.text.specs.Text.{ascii}
+use mathlib.Core.List.{List, [], _∷_, _++_}
+use lib.IntN.{ℤ}
+use lib.Ieee.{Float}
+use Rattle.text.specs.Text.{ascii, signedText}
+use Rattle.columns.specs.Rows.{labelledPieces, endPieces, refusedPieces}
 use Rattle.real.specs.declared.Answer.{Answer}
 use Rattle.real.specs.declared.Answer.the-variants as A
 use Rattle.iterator.specs.declared.Tried.{Tried}
 use Rattle.iterator.specs.declared.Tried.the-variants as T
-use Rattle.solve.specs.Answers.{advancedNumber, transferredNumber}
-use Rattle.solve.specs.declared.Advanced.{Advanced}
-use Rattle.solve.specs.declared.Advanced.the-variants as Ad
-use Rattle.solve.specs.declared.Transferred.{Transferred}
-use Rattle.solve.specs.declared.Transferred.the-variants as Tr
 use Rattle.theta.specs.Theta as Theta
 use Rattle.theta.specs.declared.TransferTime.{TransferTime}
 use Rattle.theta.specs.declared.TransferTime.the-variants as Ti
 use Rattle.apsides.specs.Apsides as Periapo
 use Rattle.apsides.specs.declared.Apsides.{Apsides}
 use Rattle.apsides.specs.declared.Apsides.the-variants as Ap
-use Rattle.answers.specs.Lines.{refusedPieces, onePieces, closedPieces, pointPieces, nonePieces, orbitPieces, transferPieces}
+
+-- `NAME D bits X`
+unfoldable pub onePieces : List ℕ → Float → List (List ℕ)
+onePieces name x = labelledPieces name (x ∷ []) ++ endPieces (x ∷ [])
+
+-- `closed near D far D bits X X`
+unfoldable pub closedPieces : Float → Float → List (List ℕ)
+closedPieces near far = labelledPieces (ascii "closed near") (near ∷ []) ++ (labelledPieces (ascii " far") (far ∷ []) ++ endPieces (near ∷ far ∷ []))
+
+-- `point N`
+unfoldable pub pointPieces : ℤ → List (List ℕ)
+pointPieces n = ascii "point " ∷ signedText n ∷ ascii "\n" ∷ []
+
+abbrev pub nonePieces : List (List ℕ)
+nonePieces = ascii "none\n" ∷ []
+
+-- ---- each answer
 
 -- `value D bits X`
 abbrev pub answerPieces : Answer → List (List ℕ)
@@ -28,18 +43,6 @@ abbrev pub triedPieces : Tried → List (List ℕ)
 triedPieces (T.Point n) = pointPieces n
 triedPieces T.NoneLeft = nonePieces
 triedPieces (T.Refused n) = refusedPieces n
-
-abbrev pub advancedPieces : Advanced → List (List ℕ)
-advancedPieces (Ad.Found s x) = orbitPieces s x
-advancedPieces Ad.TooLong = refusedPieces (advancedNumber Ad.TooLong)
-advancedPieces Ad.TooShort = refusedPieces (advancedNumber Ad.TooShort)
-advancedPieces (Ad.Refused n) = refusedPieces (advancedNumber (Ad.Refused n))
-
-abbrev pub transferredPieces : Transferred → List (List ℕ)
-transferredPieces (Tr.Found v x) = transferPieces v x
-transferredPieces Tr.TooLong = refusedPieces (transferredNumber Tr.TooLong)
-transferredPieces Tr.TooShort = refusedPieces (transferredNumber Tr.TooShort)
-transferredPieces (Tr.Refused n) = refusedPieces (transferredNumber (Tr.Refused n))
 
 -- `time D bits X`
 abbrev pub timedPieces : TransferTime → List (List ℕ)

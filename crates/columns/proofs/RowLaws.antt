@@ -9,12 +9,13 @@ use lib.ListN.{length, getD, take, length-append}
 use lib.Seq.{take-suc, take-all}
 use lib.Ieee.{Float}
 use Rattle.text.specs.Text.{ascii, Put}
+use Rattle.text.proofs.Decimals.{at-most}
 use Rattle.text.specs.Pieces.{concat, Laid, end, then}
 use Rattle.text.proofs.Lays.{and-then, concat-append}
 use Rattle.figures.proofs.Lengths.{fixed-short, bits-short}
 use Rattle.columns.specs.declared.Style.{Style}
 use Rattle.columns.specs.declared.Style.the-variants.{Places, Bits}
-use Rattle.columns.specs.Rows.{figureText, rowPieces, endPieces}
+use Rattle.columns.specs.Rows.{figureText, rowPieces, endPieces, labelledPieces, countedPieces, refusedPieces, unreadPieces}
 
 row-append : (style : Style) (xs ys : List Float) → rowPieces style (xs ++ ys) ≡ rowPieces style xs ++ rowPieces style ys
 unfolding rowPieces
@@ -75,3 +76,17 @@ unfolding concat
 end-short xs =
     let e = ap length (concat-append (rowPieces Bits xs) (ascii "\n" ∷ [])) ∙ length-append (concat (rowPieces Bits xs)) (ascii "\n") in
     omega (arith, e, bits-short-row xs)
+
+pub labelled-short : (label : List ℕ) (xs : List Float) → length (concat (labelledPieces label xs)) ≤ length label + 22 * length xs
+unfolding concat
+labelled-short label xs = simp length-append (omega (arith, row-short xs))
+
+counted-short : (word : List ℕ) (n : ℕ) → length (concat (countedPieces word n)) ≤ length word + 21
+unfolding concat countedPieces
+counted-short word n = simp length-append (omega (arith, at-most 20 n))
+
+pub refused-fits : (n : ℕ) → length (concat (refusedPieces n)) ≤ 512
+refused-fits n = omega (arith, counted-short (ascii "refused ") n)
+
+pub unread-fits : (w : ℕ) → length (concat (unreadPieces w)) ≤ 512
+unread-fits w = omega (arith, counted-short (ascii "unread ") w)

@@ -1,9 +1,9 @@
 // Numbers in a row, put into a lent buffer at a place: to six places for people, and at the line's end their bits.
-// Each routine answers the place behind what it put, or text::NOWHERE where not all of it fits.
-ghost use mathlib.Core.List.{_++_, _∷_};
+// A refusal and a word that cannot be read, as lines. Each routine answers the place behind what it put, or
+// text::NOWHERE where not all of it fits.
 ghost use Rattle.text.specs.Text.{Put};
 ghost use Rattle.text.specs.Pieces.{Laid};
-ghost use Rattle.columns.specs.Rows.{figureText, rowPieces, endPieces};
+ghost use Rattle.columns.specs.Rows.{figureText, rowPieces, labelledPieces, endPieces, countedPieces, refusedPieces, unreadPieces};
 
 // A number to six places, or its bits.
 pub enum Style {
@@ -36,7 +36,7 @@ pub fn row(buf: &mut [u8], at: usize, style: Style, xs: &[f64]) -> usize
 
 // A label, and numbers to six places.
 pub fn labelled(buf: &mut [u8], at: usize, label: &[u8], xs: &[f64]) -> usize
-    ensures { λ r. ⌜ Laid (now (buf .entry)) at (now (label .entry) ∷ rowPieces Style.Places (now (xs .entry))) (now (buf .exit)) r ⌝ }
+    ensures { λ r. ⌜ Laid (now (buf .entry)) at (labelledPieces (now (label .entry)) (now (xs .entry))) (now (buf .exit)) r ⌝ }
 {
     let e = text::bytes(buf, at, label);
     row(buf, e, Style::Places, xs)
@@ -49,4 +49,27 @@ pub fn end(buf: &mut [u8], at: usize, xs: &[f64]) -> usize
     let a = text::bytes(buf, at, b" bits");
     let b = row(buf, a, Style::Bits, xs);
     text::byte(buf, b, b'\n')
+}
+
+// A word and a whole number, at the front.
+fn counted(buf: &mut [u8], word: &[u8], n: u64) -> usize
+    ensures { λ r. ⌜ Laid (now (buf .entry)) 0 (countedPieces (now (word .entry)) n) (now (buf .exit)) r ⌝ }
+{
+    let a = text::bytes(buf, 0, word);
+    let b = text::number(buf, a, n);
+    text::byte(buf, b, b'\n')
+}
+
+// The line of a refusal.
+pub fn refused(buf: &mut [u8], number: u32) -> usize
+    ensures { λ r. ⌜ Laid (now (buf .entry)) 0 (refusedPieces number) (now (buf .exit)) r ⌝ }
+{
+    counted(buf, b"refused ", number as u64)
+}
+
+// The line of a word that cannot be read.
+pub fn unread(buf: &mut [u8], word: u64) -> usize
+    ensures { λ r. ⌜ Laid (now (buf .entry)) 0 (unreadPieces word) (now (buf .exit)) r ⌝ }
+{
+    counted(buf, b"unread ", word)
 }

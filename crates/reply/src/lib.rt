@@ -1,11 +1,41 @@
 // The desk: a line in, a line out.
 ghost use Rattle.text.specs.Text.{InFront};
 ghost use Rattle.text.specs.Pieces.{Laid};
-ghost use Rattle.reply.specs.Replies.{room, replyOf, replyText};
-use requests::Request;
+ghost use Rattle.reply.specs.Replies.{room, solvedOf, replyOf, replyText};
+use forms::Request;
+use forms::Solve;
 use text::Made;
 
-// What is asked, answered at the front of a lent buffer.
+// A solve's answer, at the front of a lent buffer.
+fn solved(buf: &mut [u8], given: Solve) -> usize
+    ensures { λ r. ⌜ Laid (now (buf .entry)) 0 (solvedOf given) (now (buf .exit)) r ⌝ }
+{
+    match given {
+        Solve::Kepler { mu, state, time } => solutions::tell_advance(
+            buf,
+            solve::advance(mu, state, time),
+        ),
+        Solve::Lambert {
+            mu,
+            first,
+            second,
+            time,
+            way,
+        } => solutions::tell_transfer(
+            buf,
+            solve::transfer_velocity(mu, first, second, way, time),
+        ),
+        Solve::Theta {
+            mu,
+            state,
+            sine,
+            cosine,
+        } => answers::tell_time(buf, theta::time_theta(mu, state, sine, cosine)),
+        Solve::Apsides { mu, state } => answers::tell_apsides(buf, apsides::periapo(mu, state)),
+    }
+}
+
+// What is asked, answered likewise.
 fn answered(buf: &mut [u8], request: Request) -> usize
     ensures { λ r. ⌜ Laid (now (buf .entry)) 0 (replyOf request) (now (buf .exit)) r ⌝ }
 {
@@ -22,25 +52,8 @@ fn answered(buf: &mut [u8], request: Request) -> usize
             above,
             k,
         } => answers::tell_trial(buf, iterator::trial(asked, lo, hi, below, above, k)),
-        Request::Kepler { mu, state, time } => answers::tell_advance(
-            buf,
-            solve::advance(mu, state, time),
-        ),
-        Request::Lambert {
-            mu,
-            first,
-            second,
-            time,
-            way,
-        } => answers::tell_transfer(buf, solve::transfer_velocity(mu, first, second, way, time)),
-        Request::Theta {
-            mu,
-            state,
-            sine,
-            cosine,
-        } => answers::tell_time(buf, theta::time_theta(mu, state, sine, cosine)),
-        Request::Apsides { mu, state } => answers::tell_apsides(buf, apsides::periapo(mu, state)),
-        Request::Unread(w) => answers::tell_unread(buf, w),
+        Request::Solve(x) => solved(buf, x),
+        Request::Unread(w) => columns::unread(buf, w),
     }
 }
 

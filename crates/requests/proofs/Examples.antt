@@ -9,9 +9,9 @@ use Rattle.real.specs.F64.{bits}
 use Rattle.iterator.specs.declared.Judgement.the-variants.{Low, High}
 use Rattle.words.specs.Words.{isOf, upTo, from, fromWord, wordAt, startsWith, isWord}
 use Rattle.numerals.specs.Numbers.{digitOf, areDigits, valueOf, readOf, decimal, wholeOf, signedOf, patternOf, wellFormed, unsignedOf, numberOf}
-use Rattle.requests.specs.declared.request.Request.the-variants.{Nothing, Root, Trial, Unread}
-use Rattle.requests.specs.Judgements.{judgedOf}
-use Rattle.requests.specs.Forms.{readBy}
+use Rattle.forms.specs.declared.Request.the-variants.{Nothing, Root, Trial, Unread}
+use Rattle.forms.specs.Judgements.{judgedOf}
+use Rattle.forms.specs.Forms.{readBy}
 use Rattle.requests.specs.Requests.{requestOf}
 
 lines : map requestOf (ascii "root 2" ∷ ascii "# root 2" ∷ ascii "" ∷ ascii "cot 2" ∷ ascii " kepler 1 x\r" ∷ ascii "kepler 1" ∷ ascii "c 1 2" ∷ ascii "trial 4 0 8 low:0 high:16 1" ∷ ascii "lambert 1 2 3 4 5 6 7 8 round" ∷ [])

@@ -1,4 +1,1 @@
-pub mod Judgements
-pub mod Forms
 pub mod Requests
-pub mod Parts

@@ -7,32 +7,12 @@ use lib.Dec.{eqb, ltb}
 use lib.IntN.{ℤ}
 use lib.Ieee.{Float}
 use Rattle.text.specs.Text.{ascii}
-use Rattle.vector.specs.declared.Vector.{Vector}
-use Rattle.vector.specs.declared.State.{State}
-use Rattle.vector.specs.Vectors.{stateOf}
 use Rattle.iterator.specs.declared.Judgement.{Judgement}
-use Rattle.lambert.specs.declared.Way.{Way}
-use Rattle.lambert.specs.declared.Way.the-variants.{Short, Long}
 use Rattle.words.specs.Words.{wordAt}
-use Rattle.requests.specs.declared.request.Request.{Request}
-use Rattle.requests.specs.declared.request.Request.the-variants as Q
-use Rattle.requests.specs.Forms.{Form, end, number, signed, whole, judgement, word, none, readBy}
-
--- ---- parts of a line
-
-abbrev pub vector : (Vector → Form) → Form
-vector go = number λ x. number λ y. number λ z. go (record { x = x; y = y; z = z })
-
--- mu, and two vectors
-abbrev pub three : (Float → Vector → Vector → Form) → Form
-three go = number λ mu. vector λ a. vector λ b. go mu a b
-
--- mu, a position and a velocity
-abbrev pub orbit : (Float → State → Form) → Form
-orbit go = three λ mu r v. go mu (stateOf r v)
-
-abbrev pub way : (Way → Form) → Form
-way go = word (ascii "short") (go Short) (word (ascii "long") (go Long) none)
+use Rattle.forms.specs.declared.Request.{Request}
+use Rattle.forms.specs.declared.Request.the-variants as Q
+use Rattle.forms.specs.Forms.{Form, end, number, signed, whole, judgement, word, readBy}
+use Rattle.solves.specs.Solves.{solveForm}
 
 -- ---- the table
 
@@ -57,31 +37,12 @@ trialBetween asked = signed λ lo. signed λ hi. trialJudged asked lo hi
 abbrev pub trialForm : Form
 trialForm = number λ asked. trialBetween asked
 
-abbrev pub keplerForm : Form
-keplerForm = orbit λ mu state. number λ time. end (Q.Kepler mu state time)
-
-abbrev pub lambertForm : Form
-lambertForm = three λ mu first second. number λ time. way λ w. end (Q.Lambert mu first second time w)
-
-abbrev pub thetaForm : Form
-thetaForm = orbit λ mu state. number λ sine. number λ cosine. end (Q.Theta mu state sine cosine)
-
-abbrev pub apsidesForm : Form
-apsidesForm = orbit λ mu state. end (Q.Apsides mu state)
-
-abbrev pub solvers : Form
-solvers =
-    word (ascii "kepler") keplerForm
-    (word (ascii "lambert") lambertForm
-    (word (ascii "theta") thetaForm
-    (word (ascii "apsides") apsidesForm none)))
-
 abbrev pub routines : Form
 routines =
     word (ascii "root") rootForm
     (word (ascii "c") cForm
     (word (ascii "s") sForm
-    (word (ascii "trial") trialForm solvers)))
+    (word (ascii "trial") trialForm (solveForm Q.Solve))))
 
 -- ---- a line
 
