@@ -75,8 +75,8 @@ def hold(got, status, wrote=None, says=""):
 
 def program(name):
     """The path of a program of this checkout."""
-    subprocess.run([ROOT / "cabin", "run", name], input=b"", capture_output=True, check=True)
-    return max((ROOT / ".cabin").glob(f"{name}-*"), key=os.path.getmtime)
+    ran = subprocess.run([ROOT / "cabin", "ready", name], stdout=subprocess.PIPE, text=True, check=True)
+    return ran.stdout.split("\n")[-2]
 
 
 class Room:

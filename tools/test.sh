@@ -33,7 +33,7 @@ proofs() {
         failed=$((failed + 1)) wrong+=("proofs, which gave no count")
     fi
     for main in crates/*/src/main.rt; do
-        ./cabin ready "$(basename "${main%/src/main.rt}")" || true
+        ./cabin ready "$(basename "${main%/src/main.rt}")" >/dev/null || true
     done
     export CABIN_BUILD=no
 }
