@@ -17,13 +17,21 @@ stored() {
     python3 second/compare.py crates/desk/stdout "$room/stored" crates/desk/stdin
 }
 
-requests() {
-    echo "$requests fresh requests, seed $seed"
+# The lines of $room/requests, asked of both.
+ask_both() {
     ready desk
-    "$second" requests "$seed" "$requests" >"$room/requests"
     "$second" desk <"$room/requests" >"$room/second"
     run desk <"$room/requests" >"$room/desk"
     python3 second/compare.py "$room/desk" "$room/second" "$room/requests"
+}
+
+requests() {
+    echo "hard roots"
+    python3 tools/root_cases.py >"$room/requests"
+    ask_both
+    echo "$requests fresh requests, seed $seed"
+    "$second" requests "$seed" "$requests" >"$room/requests"
+    ask_both
 }
 
 # Lists every OF-th session by both programs, from the K-th on.

@@ -10,19 +10,17 @@ use Rattle.session.specs.declared.Reading.the-variants.{Refused}
 use Rattle.session.specs.Layout.{numbersFrom, allFinite}
 use Rattle.session.specs.Read.{readAt}
 use Rattle.session.proofs.Examples.{burn}
-use Rattle.text.specs.Text.{digits}
+use Rattle.text.specs.Text.{ascii, digits}
 use Rattle.lines.specs.Lines.{headingText, refusedText}
 use Rattle.report.specs.declared.Next.the-variants.{Heading, At}
 use Rattle.report.specs.Listing.{stepFor, stepsIn, stepsFrom, textOf, listingOf}
 use Rattle.report.proofs.Whole.{line-by-line, nothing-left}
 
--- `0 64 1 burn`
-pub burn-listing : listingOf burn ≡ headingText ++ (48 ∷ 32 ∷ 54 ∷ 52 ∷ 32 ∷ 49 ∷ 32 ∷ 98 ∷ 117 ∷ 114 ∷ 110 ∷ 10 ∷ [])
+pub burn-listing : listingOf burn ≡ ascii "day cs vehicle kind\n0 64 1 burn\n"
 unfolding textOf stepsIn allFinite numbersFrom ofBits digits
 burn-listing = refl
 
--- `refused 13 at 0`
-pub unknown-kind : listingOf (38 ∷ 0 ∷ 4 ∷ 0 ∷ []) ≡ headingText ++ (114 ∷ 101 ∷ 102 ∷ 117 ∷ 115 ∷ 101 ∷ 100 ∷ 32 ∷ 49 ∷ 51 ∷ 32 ∷ 97 ∷ 116 ∷ 32 ∷ 48 ∷ 10 ∷ [])
+pub unknown-kind : listingOf (38 ∷ 0 ∷ 4 ∷ 0 ∷ []) ≡ ascii "day cs vehicle kind\nrefused 13 at 0\n"
 unfolding textOf stepsIn digits
 unknown-kind = refl
 

@@ -14,6 +14,8 @@ use Rattle.lines.specs.Lines.{headingText, recordText, refusedText}
 use Rattle.report.specs.declared.Next.{Next}
 use Rattle.report.specs.declared.Next.the-variants.{Heading, At, Done}
 use Rattle.report.specs.declared.Filled.{Filled}
+use Rattle.report.specs.declared.Filling.{Filling}
+use Rattle.report.specs.declared.Filling.the-variants as F
 
 -- a line, and what comes after it
 pub record Step : Type 0 where
@@ -68,6 +70,11 @@ pub record Fills (s : List ℕ) (next : Next) (d e : List ℕ) (r : Filled) : Ty
   pub count : r .length ≡ length (textIn (length d) (stepsFrom s next))
   pub after : r .next ≡ nextIn (length d) next (stepsFrom s next)
   pub buffer : e ≡ textIn (length d) (stepsFrom s next) ++ drop (r .length) d
+
+-- the same, unless d is under 40 bytes: then it stays as it was, and the answer is 15
+pub record FillOf (s : List ℕ) (next : Next) (d e : List ℕ) (r : Filling) : Type 0 where
+  pub answer : r ≡ cond (ltb (length d) 40) (F.Refused 15) (F.Lines (record { length = length (textIn (length d) (stepsFrom s next)); next = nextIn (length d) next (stepsFrom s next) }))
+  pub buffer : e ≡ cond (ltb (length d) 40) d (textIn (length d) (stepsFrom s next) ++ drop (length (textIn (length d) (stepsFrom s next))) d)
 
 -- one step at the front of d
 pub record Stepped (t : Step) (d e : List ℕ) (r : Filled) : Type 0 where

@@ -2,7 +2,7 @@
 ghost use Prim.Native.Nat.{_≤_};
 ghost use mathlib.Core.Path.{_≡_};
 ghost use lib.ListN.{length};
-ghost use Rattle.report.specs.Listing.{isDone, stepAt, stepOf, Stepped, Fills, sizeOf};
+ghost use Rattle.report.specs.Listing.{isDone, stepAt, stepOf, Stepped, Fills, FillOf, sizeOf};
 use lines::Made;
 use session::Place;
 use session::Reading;
@@ -20,8 +20,23 @@ pub struct Filled {
     pub next: Next,
 }
 
+// What is filled, or the number of the refusal.
+pub enum Filling {
+    Lines(Filled),
+    Refused(u32),
+}
+
 // The lines of the listing of s from `next` on, while 40 bytes are left in `out`.
-pub fn fill(s: &[u8], next: Next, out: &mut [u8]) -> Filled
+pub fn fill(s: &[u8], next: Next, out: &mut [u8]) -> Filling
+    ensures { λ r. ⌜ FillOf (now (s .entry)) next (now (out .entry)) (now (out .exit)) r ⌝ }
+{
+    if out.len() < 40 {
+        return Filling::Refused(15);
+    }
+    Filling::Lines(fill_lines(s, next, out))
+}
+
+fn fill_lines(s: &[u8], next: Next, out: &mut [u8]) -> Filled
     ensures { λ r. ⌜ Fills (now (s .entry)) next (now (out .entry)) (now (out .exit)) r ⌝ }
 {
     let mut n = 0;

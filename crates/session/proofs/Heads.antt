@@ -15,7 +15,7 @@ use Rattle.session.specs.declared.record.Head.the-variants.{Good, Bad}
 use Rattle.session.specs.declared.record.Record.{Record}
 use Rattle.session.specs.declared.record.Decoded.{Decoded}
 use Rattle.session.specs.declared.record.Decoded.the-variants.{Whole, Refused}
-use Rattle.session.specs.Bytes.{field}
+use Rattle.field.specs.Bytes.{field}
 use Rattle.session.specs.Layout.{vehicleAt, byteAt, numbersFrom, allFinite}
 use Rattle.session.specs.Kinds.{kindOf, lengthOf, countOf, topOf}
 use Rattle.session.specs.Decode.{allowedAt, judged, headOf, decoded, decodeOf}

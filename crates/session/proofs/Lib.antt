@@ -1,10 +1,8 @@
-pub mod Fields
 pub mod Numbers
 pub mod Table
 pub mod Heads
 pub mod Refusals
 pub mod Stable
-pub mod Bytes
 pub mod ReadBack
 pub mod WriteBack
 pub mod Allowed

@@ -25,11 +25,11 @@ use Rattle.session.specs.declared.record.Head.the-variants.{Good, Bad}
 use Rattle.session.specs.declared.record.Record.{Record}
 use Rattle.session.specs.declared.record.Record.the-variants as R
 use Rattle.session.specs.declared.record.Decoded.the-variants.{Whole}
-use Rattle.session.specs.Bytes.{le, field, bytesLe, bitsOf}
+use Rattle.field.specs.Bytes.{le, field, bytesLe, bitsOf}
 use Rattle.session.specs.Kinds.{numberOf, lengthOf, countOf, kindOf}
 use Rattle.session.specs.Layout.{vehicleAt, byteAt, timeAt, numberAt, numbersFrom, recordWith, recordAt, kindIn, vehicleIn, byteIn, timeIn, numbersIn, headerBytes, numberBytes, bytesOf}
 use Rattle.session.specs.Decode.{allowed, allowedAt, allowedIn, judged, headOf, decoded, decodeOf, AllFit, Held}
-use Rattle.session.proofs.Bytes.{le-bytes, bytes-length}
+use Rattle.field.proofs.Bytes.{le-bytes, bytes-length}
 use Rattle.session.proofs.Table.{length-law, kind-back, length-word, number-word}
 
 -- number i of those written

@@ -18,7 +18,7 @@ use Rattle.session.specs.declared.record.Decoded.the-variants as D
 use Rattle.session.specs.declared.Place.{Place}
 use Rattle.session.specs.declared.Reading.{Reading}
 use Rattle.session.specs.declared.Reading.the-variants.{Record, End, Refused}
-use Rattle.session.specs.Bytes.{field}
+use Rattle.field.specs.Bytes.{field}
 use Rattle.session.specs.Kinds.{kindOf, lengthOf}
 use Rattle.session.specs.Decode.{allowedAt, judged, headOf, decoded, decodeOf}
 use Rattle.session.specs.Read.{placed, readAt}

@@ -17,7 +17,7 @@ use Rattle.session.specs.declared.record.Head.{Head}
 use Rattle.session.specs.declared.record.Head.the-variants.{Good, Bad}
 use Rattle.session.specs.declared.record.Record.{Record}
 use Rattle.session.specs.declared.record.Decoded.the-variants.{Whole, Refused}
-use Rattle.session.specs.Bytes.{le, field}
+use Rattle.field.specs.Bytes.{le, field}
 use Rattle.session.specs.Layout.{numberAt, numbersFrom, recordAt}
 use Rattle.session.specs.Kinds.{kindOf, lengthOf, countOf}
 use Rattle.session.proofs.Table.{length-law}

@@ -18,14 +18,14 @@ use Rattle.session.specs.declared.record.Head.{Head}
 use Rattle.session.specs.declared.record.Head.the-variants.{Good, Bad}
 use Rattle.session.specs.declared.record.Record.{Record}
 use Rattle.session.specs.declared.record.Decoded.the-variants.{Whole}
-use Rattle.session.specs.Bytes.{le, field, bytesLe, bitsOf}
+use Rattle.field.specs.Bytes.{le, field, bytesLe, bitsOf}
 use Rattle.session.specs.Kinds.{numberOf, lengthOf, countOf, topOf}
 use Rattle.session.specs.Layout.{vehicleAt, byteAt, timeAt, wordAt, numberAt, numbersFrom, allFinite, recordAt, headerBytes, numberBytes, bytesOf}
 use Rattle.session.specs.Decode.{headOf, decoded, decodeOf}
 use Rattle.session.proofs.Numbers.{both}
 use Rattle.session.proofs.Table.{length-law, kind-number}
 use Rattle.session.proofs.Heads.{good-head, good-kind}
-use Rattle.session.proofs.Bytes.{Bytes, bytes-le, bytes-take, bytes-drop, le-below}
+use Rattle.field.proofs.Bytes.{Bytes, bytes-le, bytes-take, bytes-drop, le-below}
 
 not-nan : (x : Float) → finite x ≡ true → T (not (isNan x))
 unfolding isNan

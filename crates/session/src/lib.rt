@@ -1,5 +1,5 @@
 // The session reader: the session's bytes and a place in; a record and the next place, the end, or a refusal out.
-mod field;
+mod payload;
 mod record;
 
 pub use record::BurnRecord;

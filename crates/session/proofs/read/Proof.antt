@@ -3,7 +3,7 @@ use lib.ListN.{take, drop, length-drop, length}
 use Rattle.session.specs.declared.record.Decoded.{Decoded}
 use Rattle.session.specs.Read.{placed}
 use Rattle.session.proofs.Heads.{whole-fits}
-use Rattle.session.proofs.Fields.{rest}
+use Rattle.field.proofs.Fields.{rest}
 use borrow.Author.Tests.{le-ltb, lt-ltb, eq-eqb, ne-eqb}
 use Rattle.session.specs.Decode.{decodeOf}
 use Prim.Native.Nat.{_-_}
