@@ -9,8 +9,9 @@ shopt -s inherit_errexit extglob
 export LC_ALL=C
 keep=$home/.cabin # proved programs, each under a name of its own, their logs, and the lock
 failure=2
-clean=() # what goes away at the end
-trap 'status=$?; rm -rf "${clean[@]}"; [ "$status" -eq 0 ] || exit "$failure"' EXIT
+clean=()     # what goes away at the end
+at_end=true # what is still done then
+trap 'status=$?; "$at_end" || status=2; rm -rf "${clean[@]}"; [ "$status" -eq 0 ] || exit "$failure"' EXIT
 # A write that fails is then an error like any other, and told as such.
 trap '' PIPE XFSZ
 

@@ -391,14 +391,14 @@ def _():
 
 # ---- the gate
 
-def gate(room, ci, fails=()):
-    """The lines of ./cabin test over parts that pass, but for those that fail."""
+def gate(room, ci, fails=(), **more):
+    """The status and the lines of ./cabin test over parts that pass, but for those that fail."""
     (room.stub / "ci").write_text(ci)
     for name in re.findall(r"python3 tools/(\w+\.py)", (ROOT / "tools" / "test.sh").read_text()):
         room.write(f"tools/{name}", f"import sys; print('{name} was made'); sys.exit({int(name in fails)})\n")
     room.write("tools/compare.sh", f'echo "compare $1 was made, build $CABIN_BUILD"; case " {" ".join(fails)} " in *" $1 "*) exit 1 ;; esac\n')
-    status, wrote, _said = room.front("test")
-    return status, wrote.decode().split("\n")[:-1]
+    status, wrote, _said = room.front("test", **more)
+    return status, (wrote or b"").decode().split("\n")[:-1]
 
 
 def parts(lines):
@@ -424,6 +424,11 @@ def _():
             status, lines = gate(room, ci, fails)
             assert (status, lines[-1], parts(lines)) == (2, count, made), (status, count, lines)
             assert any(line.startswith("FAILED: ") for line in lines), lines
+        with open("/dev/full", "wb") as full:
+            assert gate(room, 'echo "40 passed, 0 failed"\n', stdout=full)[0] == 2
+        room.env["PATH"] = "/usr/bin:/bin"
+        status, lines = gate(room, "")
+        assert (status, lines[-1]) == (2, "0 passed, 1 failed"), (status, lines)
 
 
 def main():
