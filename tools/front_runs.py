@@ -97,7 +97,7 @@ class Room:
         (self.stub / "rt").write_text(KIT.replace("@DOC@", doc))
         (self.stub / "rt").chmod(0o755)
         shutil.copy(program("listing"), self.stub / "listing")
-        self.env = dict(os.environ, PATH=f"{self.stub}:{os.environ['PATH']}", STUB=str(self.stub), CABIN_BUILD="yes")
+        self.env = dict(os.environ, PATH=f"{self.stub}:{os.environ['PATH']}", STUB=str(self.stub), CABIN_BUILD="yes", CABIN_LOCKED="")
         self.top.chmod(0o755)
         return self
 
@@ -260,6 +260,9 @@ def _():
         hold(room.front("list", SAMPLE), 0, WHOLE)
         subprocess.run(["chmod", "-R", "a-w", room.home], check=True)
         hold(room.front("list", SAMPLE, nobody=True), 0, WHOLE)
+        subprocess.run(["chmod", "-R", "u+w", room.home / "crates"], check=True)
+        room.write("crates/listing/src/more.rt", "")
+        hold(room.front("list", SAMPLE, nobody=True), 2, b"", "cannot be written")
 
 
 @case("a disk that is full while a program is built: 2, and whole later")
@@ -362,6 +365,16 @@ def _():
         hold(room.front("list", SAMPLE), 0, WHOLE)
         assert gate.poll() is None, "the listing waited for the gate"
         gate.communicate(timeout=60)
+
+
+@case("two gates at once: the second waits for the first")
+def _():
+    with Room() as room:
+        (room.stub / "ci").write_text('echo in >>"$STUB/runs"; sleep 1; echo out >>"$STUB/runs"; echo "1 passed, 0 failed"\n')
+        both = [room.start("test"), room.start("test")]
+        said = b"".join(one.communicate(timeout=60)[1] for one in both)
+        order = [line for line in room.runs() if line in ("in", "out")]
+        assert b"waiting" in said and order == ["in", "out"] * 2, (order, said)
 
 
 @case("nothing is installed without a word, and what cannot be installed gives 2")

@@ -24,9 +24,7 @@ part() { # NAME COMMAND..
 proofs() {
     local log=$keep/gate.log
     printf '\n== proofs, must-fail edits, programs\n'
-    lock
     rt ci 2>&1 | tee "$log" | sed -u '/^[0-9]* passed, [0-9]* failed$/d' || true
-    unlock
     if [[ $(tail -n 1 "$log") =~ ^([0-9]+)\ passed,\ ([0-9]+)\ failed$ ]]; then
         passed=$((passed + BASH_REMATCH[1])) failed=$((failed + BASH_REMATCH[2]))
         [ "${BASH_REMATCH[2]}" -eq 0 ] || wrong+=(proofs)
@@ -52,6 +50,7 @@ verdict() {
 
 need_kit
 need python3 python3
+lock
 part "layout" rt fmt --check
 part "promises" python3 tools/promises.py
 part "rules" python3 tools/rules.py
