@@ -9,8 +9,8 @@ use lib.Seq.{drop-cons, take-all}
 use lib.Arith.{digits-lt}
 use lib.Dec.{lit<}
 use lib.IntN.{ℤ, pos, negsuc, _-ℤ_}
-use mir.Syntax.{w64}
-use mir.Val.{toZ}
+use mir.Syntax.{Width}
+use mir.Val.{toZ, hbits}
 use mir.Facts.{toZ-pos}
 use Rattle.field.specs.Bytes.{le}
 
@@ -31,16 +31,15 @@ bound-seven k i v h l x =
     let e : k - i ≤ 7 = omega arith in
     omega (arith, pow-le-pow-right {n = 256} (lit< tt) e)
 
--- the upper half of 64 bits, read as signed
+-- the upper half of the bits of a width, read as signed, by the distance from the top
 minus-one : (k : ℕ) → negsuc 0 -ℤ pos k ≡ negsuc k
 minus-one zero = refl
 minus-one (suc k) = ap (λ (n : ℕ). negsuc (suc n)) (zero-add k)
 
-pub turned : (n : ℕ) → 2 ^ 63 ≤ n → n < 2 ^ 64 → negsuc 0 -ℤ toZ w64 (2 ^ 64 - 1 - n) ≡ negsuc (2 ^ 64 - suc n)
-turned n h k =
-    let l : 2 ^ 64 - 1 - n < 2 ^ 63 = omega arith in
-    let e : 2 ^ 64 - 1 - n ≡ 2 ^ 64 - suc n = omega arith in
-    ap (λ (z : ℤ). negsuc 0 -ℤ z) (toZ-pos w64 l) ∙ minus-one (2 ^ 64 - 1 - n) ∙ ap negsuc e
+pub turned : (w : Width) (m n : ℕ) → m - n < 2 ^ hbits w → negsuc 0 -ℤ toZ w (m - n) ≡ negsuc (suc m - suc n)
+turned w m n h =
+    let e : m - n ≡ suc m - suc n = omega arith in
+    ap (λ (z : ℤ). negsuc 0 -ℤ z) (toZ-pos w h) ∙ minus-one (m - n) ∙ ap negsuc e
 
 -- `&s[n..]` is what is left after n bytes
 pub rest : (s : List ℕ) (n : ℕ) → take (length s - n) (drop n s) ≡ drop n s

@@ -3,7 +3,7 @@ use Prim.Native.Nat.{ℕ, zero, suc, _+_, _*_, _/_, _%_, min}
 use mathlib.Core.List.{List, [], _∷_}
 use lib.ListN.{take, drop}
 use lib.IntN.{ℤ}
-use mir.Syntax.{w64}
+use mir.Syntax.{w16, w64}
 use mir.Val.{toZ, ofZ}
 
 -- the number that bytes stand for, the least significant first
@@ -30,3 +30,10 @@ signedOf n = toZ w64 n
 
 abbrev pub bitsOf : ℤ → ℕ
 bitsOf z = ofZ w64 z
+
+-- the same for 16 bits
+abbrev pub shortOf : ℕ → ℤ
+shortOf n = toZ w16 n
+
+abbrev pub shortBits : ℤ → ℕ
+shortBits z = ofZ w16 z

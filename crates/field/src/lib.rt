@@ -1,9 +1,9 @@
 // The fields of bytes, little-endian: numbers read at a place.
-ghost use Prim.Native.Nat.{_^_, _≤_, _<_, min};
+ghost use Prim.Native.Nat.{_%_, _^_, _≤_, _<_, min};
 ghost use mathlib.Core.Path.{_≡_};
 ghost use lib.ListN.{length};
 ghost use Rattle.real.specs.F64.{bits};
-ghost use Rattle.field.specs.Bytes.{le, readOf, signedOf};
+ghost use Rattle.field.specs.Bytes.{le, readOf, signedOf, shortOf};
 
 // The number of the w bytes from `at` on, the least significant first: at most eight of them, and those that are there.
 pub fn read(s: &[u8], at: usize, w: usize) -> u64
@@ -26,6 +26,18 @@ pub fn signed(n: u64) -> i64
         n as i64
     } else {
         -1 - ((0xffff_ffff_ffff_ffff - n) as i64)
+    }
+}
+
+// 16 bits read as signed: the last of n.
+pub fn short(n: u64) -> i16
+    ensures { λ r. ⌜ r ≡ shortOf (n % 65536) ⌝ }
+{
+    let m = n % 65536;
+    if m < 0x8000 {
+        m as i16
+    } else {
+        -1 - ((0xffff - m) as i16)
     }
 }
 

@@ -13,7 +13,7 @@ use Rattle.session.specs.Layout.{kindIn, vehicleIn, timeIn}
 use Rattle.text.specs.Text.{ascii, decimal, signedText}
 use Rattle.lines.specs.declared.line.Made.{Made}
 use Rattle.lines.specs.declared.line.Made.the-variants.{Line, Refused}
-use Rattle.lines.specs.Days.{dayOf, csOf}
+use Rattle.lines.specs.Days.{localOf, dayOf, csOf}
 
 abbrev pub headingText : List ℕ
 headingText = ascii "day cs vehicle kind\n"
@@ -26,8 +26,9 @@ stampText t = signedText (dayOf t) ++ ascii " " ++ decimal (csOf t) ++ ascii " "
 abbrev pub eventText : ℤ → ℕ → Kind → List ℕ
 eventText t v k = stampText t ++ decimal v ++ ascii " " ++ nameOf k ++ ascii "\n"
 
-abbrev pub recordText : Record → List ℕ
-recordText r = eventText (timeIn r) (vehicleIn r) (kindIn r)
+-- the time is shown by the local clock
+abbrev pub recordText : ℤ → Record → List ℕ
+recordText o r = eventText (localOf (timeIn r) o) (vehicleIn r) (kindIn r)
 
 -- `refused NUMBER at PLACE`
 abbrev pub refusedText : ℕ → ℕ → List ℕ

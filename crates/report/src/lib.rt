@@ -78,7 +78,7 @@ fn step(s: &[u8], next: Next, line: &mut [u8]) -> Filled
             let n = length_of(lines::heading(line));
             Filled {
                 length: n,
-                next: Next::At(Place { at: 0 }),
+                next: Next::At(Place { at: 0, offset: 0 }),
             }
         }
         Next::At(place) => step_at(s, place, line),
@@ -91,16 +91,21 @@ fn step(s: &[u8], next: Next, line: &mut [u8]) -> Filled
 
 fn step_at(s: &[u8], place: Place, line: &mut [u8]) -> Filled
     requires { ⌜ 40 ≤ length (now line) ⌝ }
-    ensures { λ r. ⌜ Stepped (stepAt (now (s .entry)) (place .at)) (now (line .entry)) (now (line .exit)) r ⌝ }
+    ensures { λ r. ⌜ Stepped (stepAt (now (s .entry)) place) (now (line .entry)) (now (line .exit)) r ⌝ }
 {
     match session::read(place, s) {
         Reading::Record(r, behind) => {
-            let n = length_of(lines::record_line(line, r));
+            let o = behind.offset;
+            let n = length_of(lines::record_line(line, r, o));
             Filled {
                 length: n,
                 next: Next::At(behind),
             }
         }
+        Reading::Offset(after) => Filled {
+            length: 0,
+            next: Next::At(after),
+        },
         Reading::End => Filled {
             length: 0,
             next: Next::Done,

@@ -27,7 +27,7 @@ use Rattle.session.proofs.Table.{length-law, kind-number}
 use Rattle.session.proofs.Heads.{good-head, good-kind}
 use Rattle.field.proofs.Bytes.{Bytes, bytes-le, bytes-take, bytes-drop, le-below}
 
-not-nan : (x : Float) → finite x ≡ true → T (not (isNan x))
+pub not-nan : (x : Float) → finite x ≡ true → T (not (isNan x))
 unfolding isNan
 not-nan nan h = absurd (true≢false (sym h))
 not-nan (inf s) h = tt
@@ -38,7 +38,7 @@ module _ (s : List ℕ) (bytes : Bytes s) where
   part-length o w h = length-take-le w (drop o s) (simp length-drop (omega arith))
 
   -- the bytes of a field
-  field-bytes : (o w : ℕ) → o + w ≤ length s → bytesLe w (field o w s) ≡ take w (drop o s)
+  pub field-bytes : (o w : ℕ) → o + w ≤ length s → bytesLe w (field o w s) ≡ take w (drop o s)
   field-bytes o w h =
       let p = take w (drop o s) in
       ap (λ (n : ℕ). bytesLe n (le p)) (sym (part-length o w h)) ∙ bytes-le p (bytes-take w (drop o s) (bytes-drop o s bytes))

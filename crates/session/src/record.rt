@@ -6,6 +6,7 @@ ghost use Rattle.field.specs.Bytes.{field};
 ghost use Rattle.session.specs.Kinds.{kindOf, lengthOf, countOf, topOf};
 ghost use Rattle.session.specs.Layout.{recordAt};
 ghost use Rattle.session.specs.Decode.{allowedAt, judged, headOf, decodeOf};
+use crate::limit::time_allowed;
 use crate::payload::are_finite;
 use crate::payload::number;
 use field::read;
@@ -39,9 +40,10 @@ pub enum Record {
     Mark(MarkRecord),
 }
 
-// A record and its length, or the number of the refusal.
+// A record and its length, the local offset that its own record sets, or the number of the refusal.
 pub enum Decoded {
     Whole(Record, usize),
+    Offset(i16),
     Refused(u32),
 }
 
@@ -118,6 +120,9 @@ fn is_allowed(k: Kind, s: &[u8]) -> bool
         return false;
     }
     if s[5] > top {
+        return false;
+    }
+    if !time_allowed(signed(read(s, 6, 8))) {
         return false;
     }
     are_finite(s, n)
@@ -232,7 +237,7 @@ fn record_of(k: Kind, s: &[u8]) -> Record
     }
 }
 
-// The record at the front of s, with no place and no limit on what is behind it.
+// The record of the table at the front of s, with no place and no limit on what is behind it.
 pub fn decode(s: &[u8]) -> Decoded
     ensures { λ r. ⌜ r ≡ decodeOf (now (s .entry)) ⌝ }
 {
