@@ -3,7 +3,6 @@
 ghost use Prim.Native.Nat.{_+_, _*_, _^_, _/_, _%_, _≤_, _<_};
 ghost use mathlib.Core.Path.{_≡_};
 ghost use lib.ListN.{length};
-ghost use lib.Ieee.{binary64, ofBits};
 ghost use Rattle.text.specs.Text.{Stands, Put};
 ghost use Rattle.figures.specs.Figures.{places, minusText, millionths, fixedOf, bitsOf};
 ghost use Rattle.figures.specs.Millionths.{millionthsOf};

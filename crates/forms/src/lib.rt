@@ -2,6 +2,8 @@
 mod judgement;
 mod parts;
 
+use iterator::Judgement;
+use lambert::Way;
 pub use parts::Ends;
 pub use parts::Sides;
 pub use parts::ends_at;
@@ -9,8 +11,6 @@ pub use parts::is_end;
 pub use parts::numbers;
 pub use parts::only_numbers;
 pub use parts::sides_at;
-use iterator::Judgement;
-use lambert::Way;
 use vector::State;
 use vector::Vector;
 

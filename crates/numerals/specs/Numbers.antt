@@ -1,12 +1,12 @@
 -- What a word says as a number. Assumes nothing: these are definitions.
-use Prim.Native.Nat.{ℕ, zero, suc, _+_, _-_, _*_, _^_}
-use mathlib.Core.Bool.{Bool, true, false, not, _&&_, _||_, cond}
+use Prim.Native.Nat.{ℕ, _+_, _-_, _*_, _^_}
+use mathlib.Core.Bool.{Bool, true, not, _&&_, cond}
 use mathlib.Core.List.{List, [], _∷_, _++_}
 use lib.ListN.{length, getD, drop}
 use lib.Dec.{eqb, leb, ltb}
-use lib.IntN.{ℤ, pos, negsuc, negℤ}
+use lib.IntN.{pos, negℤ}
 use lib.Ieee as Ieee
-use lib.Ieee.{Float, binary64}
+use lib.Ieee.{binary64}
 use Rattle.real.specs.F64.{bits, _⊘_}
 use Rattle.words.specs.declared.Byte.the-variants.{Point}
 use Rattle.numerals.specs.declared.digits.Whole.{Whole}

@@ -1,7 +1,7 @@
 -- Every reply fits its room, and a line is what its pieces are. Assumes nothing.
 use Prim.Native.Nat.{ℕ, _≤_}
 use mathlib.Core.Path.{_≡_, subst}
-use mathlib.Core.List.{List, []}
+use mathlib.Core.List.{List}
 use lib.ListN.{length}
 use lib.Dec.{lit≤}
 use Rattle.text.specs.Pieces.{concat, Laid}

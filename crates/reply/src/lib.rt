@@ -21,10 +21,7 @@ fn solved(buf: &mut [u8], given: Solve) -> usize
             second,
             time,
             way,
-        } => solutions::tell_transfer(
-            buf,
-            solve::transfer_velocity(mu, first, second, way, time),
-        ),
+        } => solutions::tell_transfer(buf, solve::transfer_velocity(mu, first, second, way, time)),
         Solve::Theta {
             mu,
             state,

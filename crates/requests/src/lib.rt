@@ -74,7 +74,14 @@ fn trial_judged(line: &[u8], asked: f64, lo: i64, hi: i64) -> Request
     }
 }
 
-fn trial_counted(line: &[u8], asked: f64, lo: i64, hi: i64, below: Judgement, above: Judgement) -> Request
+fn trial_counted(
+    line: &[u8],
+    asked: f64,
+    lo: i64,
+    hi: i64,
+    below: Judgement,
+    above: Judgement,
+) -> Request
     ensures { λ r. ⌜ r ≡ readBy (trialCounted asked lo hi below above) 6 (now (line .entry)) ⌝ }
 {
     match numerals::read_whole(words::word(line, 6)) {

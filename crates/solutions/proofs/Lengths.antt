@@ -60,20 +60,20 @@ orbit-short : (s : State) (x : Solution) (turns : ℕ) → size (orbitPieces s x
 unfolding orbitPieces
 orbit-short s x turns =
     simp (concat-append, length-append) (
-      omega (
-        arith,
-        turned-short x turns,
-        labelled-short (ascii " r") (s .rx ∷ s .ry ∷ s .rz ∷ []),
-        labelled-short (ascii " v") (s .vx ∷ s .vy ∷ s .vz ∷ []),
-        end-short (x .t ∷ x .err ∷ s .rx ∷ s .ry ∷ s .rz ∷ s .vx ∷ s .vy ∷ s .vz ∷ []),
-      )
+    omega (
+      arith,
+      turned-short x turns,
+      labelled-short (ascii " r") (s .rx ∷ s .ry ∷ s .rz ∷ []),
+      labelled-short (ascii " v") (s .vx ∷ s .vy ∷ s .vz ∷ []),
+      end-short (x .t ∷ x .err ∷ s .rx ∷ s .ry ∷ s .rz ∷ s .vx ∷ s .vy ∷ s .vz ∷ []),
+    )
     )
 
 transfer-short : (v : Vector) (x : Solution) → size (transferPieces v x) ≤ 512
 unfolding transferPieces
 transfer-short v x =
     simp (concat-append, length-append) (
-      omega (arith, done-short x, labelled-short (ascii " v") (v .x ∷ v .y ∷ v .z ∷ []), end-short (x .t ∷ x .err ∷ v .x ∷ v .y ∷ v .z ∷ []))
+    omega (arith, done-short x, labelled-short (ascii " v") (v .x ∷ v .y ∷ v .z ∷ []), end-short (x .t ∷ x .err ∷ v .x ∷ v .y ∷ v .z ∷ []))
     )
 
 -- ---- each answer

@@ -1,7 +1,6 @@
 // A solve as it stands in a line: its name, and what it is given. The name is behind the line's first k words, and what
 // it is given behind one more.
 ghost use Prim.Native.Nat.{_+_};
-ghost use mathlib.Core.Path.{_≡_};
 ghost use Rattle.solves.specs.Solves.{keplerForm, lambertForm, thetaForm, apsidesForm, solveForm, Gives, ReadsWay};
 use forms::Solve;
 use lambert::Way;

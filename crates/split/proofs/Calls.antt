@@ -6,10 +6,9 @@ use mathlib.Core.Path.{_≡_, refl, sym, ap, _∙_}
 use mathlib.Core.List.{List, [], _∷_, _++_, append-assoc, append-nil}
 use mathlib.Core.Bool.{Bool, true, false, cond}
 use lib.ListN.{length, take, drop, length-append, length-drop}
-use lib.Seq.{drop-drop, drop-cons, take-all, take-at, length-take-le}
+use lib.Seq.{drop-drop, take-all, take-at, length-take-le}
 use lib.Dec.{ltb, eqb}
-use borrow.Author.Tests.{lt-ltb, le-ltb, ltb-true, ltb-false}
-use Rattle.split.specs.declared.Found.{Found}
+use borrow.Author.Tests.{ltb-true, ltb-false}
 use Rattle.split.specs.declared.Found.the-variants.{Line, Kept}
 use Rattle.text.specs.Pieces.{concat}
 use Rattle.split.specs.Split.{Rows, ended, grown, rowsFrom, joined, linesFrom, cut, ahead, added, foundOf, roomOf}

@@ -1,14 +1,13 @@
 -- Wherever an input is cut, its lines are the whole's. Assumes nothing.
-use Prim.Native.Nat.{ℕ, zero, suc, _+_, _-_, _≤_, _<_, zero-le}
-use native.Mathlib.Omega.{arith}
+use Prim.Native.Nat.{ℕ, zero, suc, _+_, _-_}
 use mathlib.Core.Path.{_≡_, refl, sym, ap, _∙_}
 use mathlib.Core.List.{List, [], _∷_, _++_, append-assoc, append-nil}
 use mathlib.Core.Bool.{Bool, true, false, cond}
-use lib.ListN.{length, take, drop, length-append}
-use lib.Dec.{ltb, eqb}
+use lib.ListN.{take}
+use lib.Dec.{eqb}
 use borrow.Author.Tests.{eqb-true}
 use Rattle.text.specs.Pieces.{concat}
-use Rattle.split.specs.Split.{Rows, ended, grown, rowsFrom, joined, partsFrom, linesFrom, eachCut, cut, unlines, ahead}
+use Rattle.split.specs.Split.{Rows, ended, grown, rowsFrom, joined, partsFrom, linesFrom, eachCut, cut, unlines}
 
 ended-joined : (b : Bool) (kept : List ℕ) (ls : List (List ℕ)) (x : Rows) → ended b kept (joined ls x) ≡ joined (ended b kept (record { lines = ls; kept = [] }) .lines) x
 ended-joined true kept ls x = refl

@@ -1,10 +1,10 @@
 -- Laws of pieces laid one behind the other. Assumes nothing.
-use Prim.Native.Nat.{ℕ, _+_, _≤_}
+use Prim.Native.Nat.{ℕ, _+_}
 use native.Mathlib.Omega.{arith}
 use mathlib.Core.Path.{_≡_, refl, sym, ap, _∙_, subst}
 use mathlib.Core.List.{List, [], _∷_, _++_, append-assoc}
 use lib.ListN.{length, length-append}
-use Rattle.text.specs.Text.{Put, Stands, IfFits}
+use Rattle.text.specs.Text.{Put, IfFits}
 use Rattle.text.specs.Pieces.{concat, Laid, end, then}
 use Rattle.text.proofs.Stand as Stand
 use Rattle.text.proofs.Stand.{none, same-size}

@@ -2,7 +2,7 @@
 ghost use Prim.Native.Nat.{_≤_};
 ghost use mathlib.Core.Path.{_≡_};
 ghost use lib.ListN.{length};
-ghost use Rattle.words.specs.Words.{isOf, upTo, from, wordAt, startsWith, isWord};
+ghost use Rattle.words.specs.Words.{isOf, wordAt, startsWith, isWord};
 ghost use Rattle.words.specs.Found.{Found};
 
 // What a search looks for: a blank, any byte but a blank, the point.

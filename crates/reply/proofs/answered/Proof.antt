@@ -2,11 +2,11 @@
 use mathlib.Core.Path.{sym, ap, _∙_}
 use mir.Syntax.{w64}
 use mir.Facts.{toZ-ofZ}
+use borrow.Author.Needs.{needs}
 use Rattle.text.specs.Pieces.{end}
-use Rattle.answers.specs.Answers.{answerPieces, triedPieces, advancedPieces, transferredPieces, timedPieces, apsidesPieces}
+use Rattle.answers.specs.Answers.{answerPieces, triedPieces}
 use Rattle.reply.specs.Replies.{replyOf}
 use Rattle.reply.proofs.Fits.{laid-as}
-use borrow.Author.Needs.{needs}
 use Rattle.reply.proofs.answered.Statement.{statement}
 use Rattle.reply.proofs.answered.Tie as tie
 
@@ -52,44 +52,14 @@ tell-trial-requires c κs = search needs
 enum-known-request-5 : tie.Need-enum-known-request-5
 enum-known-request-5 c = search needs
 
-advance-requires : tie.Need-advance-requires
-advance-requires c κs = search needs
-
-tell-advance-requires : tie.Need-tell-advance-requires
-tell-advance-requires c κs = search needs
+solved-requires : tie.Need-solved-requires
+solved-requires c κs = search needs
 
 enum-known-request-6 : tie.Need-enum-known-request-6
 enum-known-request-6 c = search needs
 
-transfer-velocity-requires : tie.Need-transfer-velocity-requires
-transfer-velocity-requires c κs = search needs
-
-tell-transfer-requires : tie.Need-tell-transfer-requires
-tell-transfer-requires c κs = search needs
-
-enum-known-request-7 : tie.Need-enum-known-request-7
-enum-known-request-7 c = search needs
-
-time-theta-requires : tie.Need-time-theta-requires
-time-theta-requires c κs = search needs
-
-tell-time-requires : tie.Need-tell-time-requires
-tell-time-requires c κs = search needs
-
-enum-known-request-8 : tie.Need-enum-known-request-8
-enum-known-request-8 c = search needs
-
-periapo-requires : tie.Need-periapo-requires
-periapo-requires c κs = search needs
-
-tell-apsides-requires : tie.Need-tell-apsides-requires
-tell-apsides-requires c κs = search needs
-
-enum-known-request-9 : tie.Need-enum-known-request-9
-enum-known-request-9 c = search needs
-
-tell-unread-requires : tie.Need-tell-unread-requires
-tell-unread-requires c κs = search needs
+unread-requires : tie.Need-unread-requires
+unread-requires c κs = search needs
 
 returns : tie.Need-returns
 returns c = laid-as (ap replyOf (sym (c .enum-told .given .1))) end
@@ -127,31 +97,13 @@ same-length-5 : tie.Need-same-length-5
 same-length-5 c = search needs
 
 returns-6 : tie.Need-returns-6
-returns-6 c = laid-as (ap advancedPieces (c .before .before .before .advance .ensures) ∙ ap replyOf (sym (c .before .before .before .before .before .before .request5 .given .1))) (c .before .before .tell-advance .ensures)
+returns-6 c = laid-as (ap replyOf (sym (c .before .before .before .before .before .request5 .given .1))) (c .before .before .solved .ensures)
 
 same-length-6 : tie.Need-same-length-6
 same-length-6 c = search needs
 
 returns-7 : tie.Need-returns-7
-returns-7 c = laid-as (ap transferredPieces (c .before .before .before .transfer-velocity .ensures) ∙ ap replyOf (sym (c .before .before .before .before .before .before .request6 .given .1))) (c .before .before .tell-transfer .ensures)
-
-same-length-7 : tie.Need-same-length-7
-same-length-7 c = search needs
-
-returns-8 : tie.Need-returns-8
-returns-8 c = laid-as (ap timedPieces (c .before .before .before .time-theta .ensures) ∙ ap replyOf (sym (c .before .before .before .before .before .before .request7 .given .1))) (c .before .before .tell-time .ensures)
-
-same-length-8 : tie.Need-same-length-8
-same-length-8 c = search needs
-
-returns-9 : tie.Need-returns-9
-returns-9 c = laid-as (ap apsidesPieces (c .before .before .before .periapo .ensures) ∙ ap replyOf (sym (c .before .before .before .before .before .before .request8 .given .1))) (c .before .before .tell-apsides .ensures)
-
-same-length-9 : tie.Need-same-length-9
-same-length-9 c = search needs
-
-returns-10 : tie.Need-returns-10
-returns-10 c = laid-as (ap replyOf (sym (c .before .before .before .before .before .request9 .given .1))) (c .before .before .tell-unread .ensures)
+returns-7 c = laid-as (ap replyOf (sym (c .before .before .before .before .before .request6 .given .1))) (c .before .before .unread .ensures)
 
 pub answered-spec : {M : Type 1} → statement M
 answered-spec =
@@ -171,19 +123,9 @@ answered-spec =
     trial-requires
     tell-trial-requires
     enum-known-request-5
-    advance-requires
-    tell-advance-requires
+    solved-requires
     enum-known-request-6
-    transfer-velocity-requires
-    tell-transfer-requires
-    enum-known-request-7
-    time-theta-requires
-    tell-time-requires
-    enum-known-request-8
-    periapo-requires
-    tell-apsides-requires
-    enum-known-request-9
-    tell-unread-requires
+    unread-requires
     returns
     same-length
     returns-2
@@ -196,10 +138,4 @@ answered-spec =
     same-length-5
     returns-6
     same-length-6
-    returns-7
-    same-length-7
-    returns-8
-    same-length-8
-    returns-9
-    same-length-9
-    returns-10)
+    returns-7)

@@ -6,7 +6,6 @@ use Rattle.text.specs.Text.{digitText}
 use Rattle.text.proofs.digit.Statement.{statement}
 use Rattle.text.proofs.digit.Tie as tie
 
-
 cast-d : tie.Need-cast-d
 cast-d c = search needs
 
