@@ -58,6 +58,7 @@ static void tests_ahead(failure *f, double mu, state from, double time, const ad
     time_row(f, time);
     must(f, fabs(k->c1) < 0x1p17, 6, "c1", k->c1, "under 2^17 in size");
     must(f, fabs(k->c2) < 0x1p6, 6, "c2", k->c2, "under 2^6 in size");
+    fall_test(f, p_n_of(mu, from));
 }
 
 static void result_tests(failure *f, state to)

@@ -6,7 +6,7 @@
 typedef struct { double asked, ratio, sine, cosine; transfer transfer; } between_positions;
 
 /* Steps 1 and 2: p of a cot, or false. */
-static bool p_of(const between_positions *l, double cot, double *p)
+static bool p_at(const between_positions *l, double cot, double *p)
 {
     double den = (l->ratio - l->cosine) + l->sine * cot;
     if (!(den > 0))
@@ -19,7 +19,7 @@ static judgement judge_transfer(const void *problem, int64_t n)
 {
     const between_positions *l = problem;
     double cot = grid_step(n), p;
-    if (!p_of(l, cot, &p))
+    if (!p_at(l, cot, &p))
         return (judgement){ l->sine > 0 ? UNDER : OVER, 0 };
     double alpha_n = 2 - p * (1 + cot * cot);
     return judged(flight_of(&l->transfer, p, cot, alpha_n), l->asked);
@@ -64,7 +64,7 @@ solution lambert(double mu, vector from, vector to, double time, bool long_way)
     if (found.refused)
         return found;
     double cot = grid_step(found.n), p = 0;
-    p_of(&l, cot, &p);
+    p_at(&l, cot, &p);
     found.v = times(sqrt(mu * p / r1), plus(times(cot, u1), cross(normal, u1)));
     velocity_result(&f, found.v);
     return f.number ? (solution){ .refused = f.number } : found;

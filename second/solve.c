@@ -21,6 +21,22 @@ double c2_of(double mu, state s)
     return length(s.r) * dot(s.v, s.v) / mu - 1;
 }
 
+double p_of(double mu, state s)
+{
+    vector r_v = cross(s.r, s.v);
+    return dot(r_v, r_v) / mu;
+}
+
+double p_n_of(double mu, state s)
+{
+    return p_of(mu, s) / length(s.r);
+}
+
+void fall_test(failure *f, double p_n)
+{
+    must(f, p_n >= 0x1p-20, 19, "p", p_n, "at least 2^-20");
+}
+
 double grid_step(int64_t n)
 {
     return (double)n * 0x1p-20;

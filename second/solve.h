@@ -13,6 +13,11 @@ void state_rows(failure *f, double mu, state s);
 /* What a state gives: c2 = |r|·(v·v)/mu − 1; α_N = 1 − c2. */
 double c2_of(double mu, state s);
 
+/* p = (r×v)·(r×v)/mu; p_N = p/|r|; and T-09's test of it. */
+double p_of(double mu, state s);
+double p_n_of(double mu, state s);
+void fall_test(failure *f, double p_n);
+
 /* x of a grid point, and cot γ. */
 double grid_step(int64_t n);
 

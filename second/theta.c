@@ -19,14 +19,13 @@ number time_theta(double mu, state from, double sine, double cosine)
     failure f = { 0 };
     input_tests(&f, mu, from, sine, cosine);
     double r1 = length(from.r), c2 = c2_of(mu, from);
-    vector r_v = cross(from.r, from.v);
-    double cot = dot(from.r, from.v) / length(r_v);
-    double p_n = dot(r_v, r_v) / mu / r1;
+    double cot = dot(from.r, from.v) / length(cross(from.r, from.v)), p_n = p_n_of(mu, from);
     transfer way = transfer_of(mu, r1, sine, cosine);
     must(&f, fabs(c2) < 0x1p6, 6, "c2", c2, "under 2^6 in size");
     must(&f, fabs(cot) <= 0x1p5, 6, "cot", cot, "at most 2^5 in size");
     must(&f, p_n <= 16, 6, "p", p_n, "at most 2^4");
     turn_test(&f, way.turn);
+    fall_test(&f, p_n);
     if (f.number)
         return (number){ .refused = f.number };
 

@@ -48,6 +48,13 @@ REQUESTS = [
     ("T-02: the grade taken from the rest", "kepler.c", "judge_advance, &k), k.rest, k.size)", "judge_advance, &k), k.rest, k.rest)"),
     ("T-02: err taken from the size", "kepler.c", "judge_advance, &k), k.rest, k.size)", "judge_advance, &k), k.size, k.size)"),
     ("T-02: the trials take the size", "kepler.c", "narrowed(grid, k.rest,", "narrowed(grid, k.size,"),
+    ("T-09: `<` for `≤` at p_N = 2^-20", "solve.c", "p_n >= 0x1p-20", "p_n > 0x1p-20"),
+    ("T-09: Kepler without it", "kepler.c", "    fall_test(f, p_n_of(mu, from));\n", ""),
+    ("T-09: Time-Theta without it", "theta.c", "    fall_test(&f, p_n);\n", ""),
+    ("T-09: Periapo without it", "apsides.c", "    fall_test(&f, p_n);\n", ""),
+    ("T-09: 19 ahead of 6 in Kepler", "kepler.c", "    must(f, fabs(k->c1)", "    fall_test(f, p_n_of(mu, from));\n    must(f, fabs(k->c1)"),
+    ("T-09: 19 ahead of 6 in Time-Theta", "theta.c", "    must(&f, fabs(c2)", "    fall_test(&f, p_n);\n    must(&f, fabs(c2)"),
+    ("T-09: 19 ahead of 6 in Periapo", "apsides.c", "    must(&f, fabs(c2)", "    fall_test(&f, p_n);\n    must(&f, fabs(c2)"),
 ]
 
 
