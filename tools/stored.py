@@ -13,7 +13,7 @@ PAGE = ROOT / "docs" / "TESTS.md"
 MARKS = ("<!-- stored -->", "<!-- /stored -->")
 GRADES = ["closed", "fair", "rough"]
 
-# what each routine can answer; Kepler's 8 is in its type and never given
+# what each routine can answer; an advance has no 8 (T-06)
 ANSWERS = {
     "root": ["value", "refused 1"],
     "c": ["value", "refused 1", "refused 6"],
