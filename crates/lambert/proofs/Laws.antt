@@ -7,6 +7,7 @@ use lib.IntN.{ℤ}
 use lib.Ieee.{Float}
 use Rattle.real.specs.F64.{finite}
 use Rattle.vector.specs.declared.Vector.{Vector}
+use Rattle.vector.specs.Vectors.{dotOf, lengthOf, dividedOf}
 use Rattle.table.specs.declared.Name.the-variants.{First, Second, Velocity, Time}
 use Rattle.table.specs.declared.Entry.{Entry}
 use Rattle.table.specs.declared.Test.the-variants.{Passed}
@@ -22,7 +23,7 @@ use Rattle.reach.specs.declared.Reached.the-variants as R
 use Rattle.lambert.specs.declared.Way.{Way}
 use Rattle.lambert.specs.declared.Way.the-variants.{Short, Long, Normal}
 use Rattle.lambert.specs.declared.Transfer.{Transfer}
-use Rattle.lambert.specs.Lambert.{positionRows, normalInput, angleRow, derivedRow, lambertTests, reachAt, judgedReach, lambertJudge, resultRow}
+use Rattle.lambert.specs.Lambert.{turnOf, sharedOf, transferOf, positionRows, normalInput, angleRow, derivedRow, lambertTests, reachAt, judgedReach, lambertJudge, resultRow}
 
 -- ---- the judge
 
@@ -84,6 +85,25 @@ module _ (mu : Float) (first second : Vector) (t : Float) (d : Transfer) where
   lambert-not-finite Short h = refused Short (muRow mu ++ positionRows first second d ++ transferTimeRow t ++ angleRow Short d ++ derivedRow d) refl h
   lambert-not-finite Long h = refused Long (muRow mu ++ positionRows first second d ++ transferTimeRow t ++ angleRow Long d ++ derivedRow d) refl h
   lambert-not-finite (Normal n) h = refused (Normal n) (muRow mu ++ positionRows first second d ++ transferTimeRow t ++ angleRow (Normal n) d ++ derivedRow d) refl h
+
+-- ---- the short way's own normal, given: all that the trials share is the same but sinθ, and what is made of it
+
+module _ (mu : Float) (first second : Vector) where
+  abbrev short : Transfer
+  short = transferOf mu first second Short
+
+  abbrev given : Transfer
+  given = transferOf mu first second (Normal (short .normal))
+
+  -- (u1×u2)·normal need not be |u1×u2| to the bit; where it is, the two forms are one
+  pub own-normal : given .sin ≡ short .sin → given ≡ short
+  unfolding transferOf turnOf
+  own-normal h =
+      let r1 = lengthOf first in
+      let r2 = lengthOf second in
+      let u1 = dividedOf first r1 in
+      let u2 = dividedOf second r2 in
+      ap (λ (x : Float). sharedOf mu r1 r2 u1 (dotOf u1 u2) (record { size = short .size; sin = x; normal = short .normal })) h
 
 -- ---- a velocity in the range of row 9 is finite
 
