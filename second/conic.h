@@ -1,4 +1,5 @@
-/* 01, 'Kepler', 'Lambert and Time-Theta', 'Apsides'. In every answer `refused` is 01's number, or 0. */
+/* 01, 'Kepler', 'Lambert and Time-Theta', 'Apsides', with what 02 changed. In every answer `refused` is the
+ * number of 01 or 02, or 0. */
 #ifndef CONIC_H
 #define CONIC_H
 
@@ -13,6 +14,7 @@ typedef struct {
     int refused;
     int64_t n; /* the lower neighbour */
     uint64_t count;
+    uint64_t turns; /* Kepler's: whole turns taken off the time asked for */
     enum grade grade;
     double time, err;
     vector r, v; /* Lambert answers v alone */

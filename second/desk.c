@@ -262,7 +262,10 @@ static void say_solution(pen *p, bool orbit, solution a)
         say(p, "refused %d", a.refused);
         return;
     }
-    say(p, "done n %" PRId64 " count %" PRIu64 " grade %s ", a.n, a.count, grades[a.grade]);
+    say(p, "done n %" PRId64 " count %" PRIu64, a.n, a.count);
+    if (orbit)
+        say(p, " turns %" PRIu64, a.turns);
+    say(p, " grade %s ", grades[a.grade]);
     if (orbit)
         say_numbers(p, "time D err D r D D D v D D D",
                     (double[]){ a.time, a.err, a.r.x, a.r.y, a.r.z, a.v.x, a.v.y, a.v.z });
