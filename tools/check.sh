@@ -6,11 +6,13 @@ home=$(cd "$(dirname "${BASH_SOURCE[0]}")/.." && pwd -P)
 . "$home/tools/front.sh"
 cd "$home"
 
-# Files that differ from where this branch left the main one, and those that git does not know yet.
+# Files that differ from where this branch left the main one (from each such place, where the two were joined both ways),
+# and those that git does not know yet.
 changed_files() {
-    local base
-    base=$(git merge-base HEAD main 2>/dev/null) || base=HEAD
-    git diff --name-only "$base"
+    local bases
+    bases=$(git merge-base --all HEAD main 2>/dev/null) || bases=HEAD
+    for base in $bases; do git diff --name-only "$base"; done | sort | uniq -c |
+        awk -v n="$(wc -w <<<"$bases")" '$1 == n { print $2 }'
     git ls-files --others --exclude-standard
 }
 
@@ -58,6 +60,7 @@ above=()
 
 rt fmt --check || fail "the layout is not rt fmt's: run rt fmt"
 python3 tools/promises.py
+python3 tools/rules.py
 if [ ${#crates[@]} -gt 0 ]; then
     say "changed: ${crates[*]}; on them stand ${#above[@]} crates, themselves among them"
     lock
@@ -69,6 +72,7 @@ else
 fi
 if [[ " ${above[*]} " == *" desk "* ]] || grep -q '^second/' <<<"$files"; then
     bash tools/compare.sh stored
+    python3 tools/published.py
 fi
 python3 tools/pages.py
 say "all of it holds; the gate for landing is ./cabin test"

@@ -33,7 +33,7 @@ open_streams() {
 need() { # COMMAND PACKAGE..
     command -v "$1" >/dev/null && return
     say "there is no command '$1' on this machine: installing ${*:2} by apt-get"
-    { apt-get update && apt-get install -y "${@:2}"; } >&2 ||
+    { apt-get update && apt-get install -y "${@:2}"; } >&2 </dev/null ||
         fail "it could not be installed: install ${*:2} by hand, then try again"
 }
 
@@ -102,17 +102,19 @@ progress() { # OF
 declare -A program # NAME: the path of its proved program
 
 # Proves and builds a program, unless it is there and nothing that it is made of has changed since. A program is moved
-# in whole, so that one that runs is never pulled away; and one whose files changed meanwhile is proved again.
+# in whole, so that one that runs is never pulled away; and one whose files changed meanwhile is proved again. Under
+# CABIN_BUILD=no nothing is built: the gate builds once.
 ready() { # NAME
     local made log=$keep/$1.log
     need_kit
     made=$(digest "$1")
     program[$1]=$keep/$1-$made
     [ ! -x "${program[$1]}" ] || return 0
+    [ "${CABIN_BUILD:-yes}" = yes ] || fail "'$1' is not built as its files are now"
     lock
     while made=$(digest "$1"); program[$1]=$keep/$1-$made; [ ! -x "${program[$1]}" ]; do
         say "proving and building '$1' (once; a few minutes)"
-        (cd "$home" && rt check "$1") 2>&1 | tee "$log" | progress "$(related below "$1" | wc -l)" ||
+        (cd "$home" && rt check "$1") 2>&1 </dev/null | tee "$log" | progress "$(related below "$1" | wc -l)" ||
             fail "'$1' could not be built: the end of $log says why"
         [ "$(digest "$1")" = "$made" ] || { say "a file of '$1' changed meanwhile"; continue; }
         find "$keep" -name "$1-*" -mmin +60 -delete
@@ -140,13 +142,20 @@ run_lines() { # NAME [WORD..]
     }
 }
 
-# Does what COMMAND does, with its output as ours, and answers its status. A Rattle program has no status: where one can
-# not read or write it says so on standard error, and that ends in 2.
-heard() { # COMMAND..
-    local said status=0 out
+# Does what COMMAND does, with its output as ours, and answers its status; what it says on standard error is in `said`.
+hear() { # COMMAND..
+    local status=0 out
     exec {out}>&1
     said=$("$@" 2>&1 >&"$out") || status=$?
     exec {out}>&-
+    return "$status"
+}
+
+# The same for what should say nothing. A Rattle program has no status: where one cannot read or write it says so on
+# standard error, and that ends in 2.
+heard() { # COMMAND..
+    local status=0
+    hear "$@" || status=$?
     [ -z "$said" ] || fail "${said##*printf: }"
     [ "$status" -le 1 ] || fail "it ended with status $status"
     return "$status"

@@ -33,6 +33,7 @@ fmt) exit 0 ;;
 ci) rm -rf target; . "$STUB/ci" ;;
 check)
     echo "start $2" >>"$STUB/runs"
+    cat >/dev/null
     [ ! -f "$STUB/hook" ] || . "$STUB/hook"
     mkdir -p target/bin && cp "$STUB/$2" "target/bin/$2" || exit 2
     echo "rt: $2 proved (0 s)"
@@ -96,7 +97,7 @@ class Room:
         (self.stub / "rt").write_text(KIT.replace("@DOC@", doc))
         (self.stub / "rt").chmod(0o755)
         shutil.copy(program("listing"), self.stub / "listing")
-        self.env = dict(os.environ, PATH=f"{self.stub}:{os.environ['PATH']}", STUB=str(self.stub))
+        self.env = dict(os.environ, PATH=f"{self.stub}:{os.environ['PATH']}", STUB=str(self.stub), CABIN_BUILD="yes")
         self.top.chmod(0o755)
         return self
 
@@ -296,6 +297,12 @@ def _():
 
 # ---- building
 
+@case("a first use from standard input: what builds does not read the session")
+def _():
+    with Room() as room:
+        hold(room.front("list", given=sample()), 0, WHOLE)
+
+
 @case("two first uses at once: one builds, the other waits, both list")
 def _():
     with Room() as room:
@@ -373,6 +380,14 @@ def _():
         assert len(re.findall(r"apt-get (?:\S+ )*install", script.read_text())) == (script.name == "front.sh"), script
 
 
+@case("under CABIN_BUILD=no what is not built gives 2, at once")
+def _():
+    with Room() as room:
+        room.env["CABIN_BUILD"] = "no"
+        hold(room.front("list", SAMPLE), 2, b"", "is not built")
+        assert not room.runs(), "it was built all the same"
+
+
 # ---- the gate
 
 def gate(room, ci, fails=()):
@@ -380,13 +395,13 @@ def gate(room, ci, fails=()):
     (room.stub / "ci").write_text(ci)
     for name in re.findall(r"python3 tools/(\w+\.py)", (ROOT / "tools" / "test.sh").read_text()):
         room.write(f"tools/{name}", f"import sys; print('{name} was made'); sys.exit({int(name in fails)})\n")
-    room.write("tools/compare.sh", f'echo "compare $1 was made"; case " {" ".join(fails)} " in *" $1 "*) exit 1 ;; esac\n')
+    room.write("tools/compare.sh", f'echo "compare $1 was made, build $CABIN_BUILD"; case " {" ".join(fails)} " in *" $1 "*) exit 1 ;; esac\n')
     status, wrote, _said = room.front("test")
     return status, wrote.decode().split("\n")[:-1]
 
 
 def parts(lines):
-    return sum(line.endswith(" was made") for line in lines)
+    return sum(" was made" in line for line in lines)
 
 
 @case("the gate's last line is its count, also where a part fails, and every part is made")
@@ -396,6 +411,8 @@ def _():
         made = parts(lines)
         assert made >= 8 and status == 0 and lines[-1] == f"{41 + made} passed, 0 failed", lines
         assert sum("passed" in line for line in lines) == 1, lines
+        assert room.runs() == ["start listing", "end listing"], "the programs are made ready, once"
+        assert "compare sessions was made, build no" in lines, lines
         for ci, fails, count in (
             ('echo "38 passed, 2 failed"; exit 1\n', (), f"{39 + made} passed, 2 failed"),
             ('echo "the toolchain died"; exit 2\n', (), f"{1 + made} passed, 1 failed"),

@@ -18,7 +18,8 @@ part() { # NAME COMMAND..
     fi
 }
 
-# From nothing, with the prover's own count; its lines are printed as they come, and the count is kept for the end.
+# From nothing, with the prover's own count; its lines are printed as they come, and the count is kept for the end. What
+# was proved is made ready, and from then on nothing is built: a part that lacks its program fails at once.
 proofs() {
     local log=$keep/gate.log
     printf '\n== proofs, must-fail edits, programs\n'
@@ -31,14 +32,20 @@ proofs() {
     else
         failed=$((failed + 1)) wrong+=("proofs, which gave no count")
     fi
+    for main in crates/*/src/main.rt; do
+        ./cabin ready "$(basename "${main%/src/main.rt}")" || true
+    done
+    export CABIN_BUILD=no
 }
 
 need_kit
 need python3 python3
 part "layout" rt fmt --check
 part "promises" python3 tools/promises.py
+part "rules" python3 tools/rules.py
 proofs
 part "pages" python3 tools/pages.py
+part "published cases" python3 tools/published.py
 part "sample" python3 tools/make_sample.py --check
 part "the listing, on whole, cut, damaged and over-long sessions" python3 tools/listing_runs.py
 part "the front, where things go wrong" python3 tools/front_runs.py
