@@ -1,12 +1,14 @@
 #!/usr/bin/env bash
 # ./cabin bench: the speed of each routine as a ratio to the same work in C. Both programs are built for x86-64, do the
 # same series of solves (second/README.md) and run in turn, five times each; off x86-64 both run under the kit's emulator.
+# A run of the same series with nothing solved is taken off each time, so that a figure is of the solves alone.
 # It fails where their checksums differ.
 home=$(cd "$(dirname "${BASH_SOURCE[0]}")/.." && pwd -P)
 . "$home/tools/front.sh"
 
 runs=5
-benches=(root:4000000 advance:100000 lambert:20000 theta:200000 list:1000)
+# the Rattle side's series, the C side's, and how many solves
+benches=(root:root-by-steps:4000000 root:root:4000000 advance:advance:100000 lambert:lambert:20000 theta:theta:200000 list:list:1000)
 
 # At -O3, C at its best; static, so that it needs no loader; without libm, whose one function is an instruction.
 build_c() {
@@ -18,7 +20,7 @@ build_c() {
         need "$cc" gcc-x86-64-linux-gnu libc6-dev-amd64-cross
     fi
     need make make
-    make -s -C "$home/second" CC=$cc OPT=-O3 OUT=../target/second-x86-64 LDFLAGS=-static LDLIBS= >&2 ||
+    make -s -C "$home/second" CC=$cc OPT=-O3 OUT="$keep/second-x86-64" LDFLAGS=-static LDLIBS= >&2 ||
         fail "the second program could not be built for x86-64"
 }
 
@@ -29,20 +31,30 @@ timed() { # FILE WORD..
     { time "$@" 2>&3; } 3>&2 2>>"$file"
 }
 
-median() { sort -n "$1" | sed -n "$((runs / 2 + 1))p"; }
+# The least of the runs: what disturbs a run only adds to it.
+least() { sort -n "$1" | head -n 1; }
 
-compare() { # NAME COUNT
-    local a b k
-    say "$1, $2 times: $runs runs of each"
-    : >"$times/rattle"
-    : >"$times/c"
+# One run of a series in each program, which must print the same checksum.
+both() { # RATTLE-SERIES C-SERIES COUNT RATTLE-FILE C-FILE
+    local a b
+    a=$(timed "$4" "${rattle[@]}" "$1" "$3")
+    b=$(timed "$5" "${c[@]}" "$2" "$3")
+    [ "$a" = "$b" ] || fail "$2: the answers differ: checksum $a in Rattle, $b in C"
+}
+
+compare() { # RATTLE-SERIES C-SERIES COUNT
+    local k
+    say "$2, $3 times: $runs runs of each program, and as many with nothing solved"
+    rm -f "$times"/*
     for ((k = 0; k < runs; k++)); do
-        a=$(timed "$times/rattle" "${rattle[@]}" "$1" "$2")
-        b=$(timed "$times/c" "${c[@]}" "$1" "$2")
-        [ "$a" = "$b" ] || fail "$1: the answers differ: checksum $a in Rattle, $b in C"
+        both "$1" "$2" "$3" "$times/r" "$times/c"
+        both "$1-inputs" "$2-inputs" "$3" "$times/r0" "$times/c0"
     done
-    awk -v name="$1" -v count="$2" -v r="$(median "$times/rattle")" -v c="$(median "$times/c")" \
-        'BEGIN { printf "%-8s %10d %10.3f %10.3f %8.2f\n", name, count, r, c, r / c }'
+    awk -v name="$2" -v count="$3" -v r="$(least "$times/r")" -v c="$(least "$times/c")" \
+        -v r0="$(least "$times/r0")" -v c0="$(least "$times/c0")" 'BEGIN {
+            r = (r - r0) / count * 1e9; c = (c - c0) / count * 1e9
+            printf "%-14s %10d %12.0f %12.0f %8.2f\n", name, count, r, c, r / c
+        }'
 }
 
 ready bench
@@ -50,12 +62,13 @@ build_c
 emulator=()
 [ ${#start[@]} -eq 3 ] || emulator=("${start[0]}")
 rattle=("${start[@]}" "${program[bench]}")
-c=("${emulator[@]}" "$home/target/second-x86-64/second" bench)
+c=("${emulator[@]}" "$keep/second-x86-64/second" bench)
 times=$(mktemp -d)
 clean+=("$times")
 
-printf '%-8s %10s %10s %10s %8s\n' bench count 'Rattle s' 'C s' ratio
+printf '%-14s %10s %12s %12s %8s\n' bench count 'Rattle ns' 'C ns' ratio
 for one in "${benches[@]}"; do
-    compare "${one%:*}" "${one#*:}"
+    IFS=: read -r ours theirs count <<<"$one"
+    compare "$ours" "$theirs" "$count"
 done
-[ ${#emulator[@]} -eq 0 ] || say "both ran under an emulator: the ratios say something, the seconds do not"
+[ ${#emulator[@]} -eq 0 ] || say "both ran under an emulator: the ratios say something, the nanoseconds do not"

@@ -1,5 +1,5 @@
 // A fixed series of solves and a checksum of the answers' bits: `bench NAME [COUNT]`, or every series, short, with no
-// argument. second/README.md has the series in words.
+// argument. NAME with `-inputs` behind it is the same series with nothing solved. second/README.md has the series in words.
 mod fold;
 mod inputs;
 mod records;
@@ -10,17 +10,12 @@ use libc::STDOUT_FILENO;
 use runs::Bench;
 use runs::run;
 use runs::usual;
-ghost use Prim.Native.Nat.{_<_};
+ghost use Prim.Native.Nat.{_≤_, _<_};
+ghost use lib.ListN.{length};
 
 enum Named {
     Bench(Bench),
     Unknown,
-}
-
-fn digit(d: u64) -> u8
-    requires { ⌜ d < 16 ⌝ }
-{
-    if d < 10 { 48 + d as u8 } else { 55 + d as u8 }
 }
 
 // 16 digits and a newline.
@@ -30,7 +25,7 @@ fn print(sum: u64) {
     let mut rest = sum;
     while 0 < at {
         at -= 1;
-        line[at] = digit(rest % 16);
+        line[at] = text::digit(rest);
         rest /= 16;
     }
     io::write_all(STDOUT_FILENO, &line);
@@ -53,6 +48,20 @@ fn bench_of(name: &[u8]) -> Named {
         return Named::Bench(Bench::List);
     }
     Named::Unknown
+}
+
+// How much of a name stands ahead of `-inputs`; all of it where that is not there.
+fn ahead(name: &[u8]) -> usize
+    ensures { λ r. ⌜ r ≤ length (now (name .entry)) ⌝ }
+{
+    let n = name.len();
+    if n < 7 {
+        return n;
+    }
+    if check::same(&name[n - 7..], b"-inputs") {
+        return n - 7;
+    }
+    n
 }
 
 // A decimal; 0 for what is none, or has over 18 digits.
@@ -90,7 +99,10 @@ fn count_for(bench: Bench) -> u64 {
 fn some(name: &[u8], bench: Bench, count: u64) {
     io::write_all(STDOUT_FILENO, name);
     io::write_all(STDOUT_FILENO, b" ");
-    print(run(bench, count));
+    print(run(bench, false, count));
+    io::write_all(STDOUT_FILENO, name);
+    io::write_all(STDOUT_FILENO, b"-inputs ");
+    print(run(bench, true, count));
 }
 
 fn all() {
@@ -108,12 +120,13 @@ fn main() {
     }
     let mut word = io::buffer();
     let n = os::arg(1, &mut word);
-    match bench_of(&word[..n]) {
-        Named::Bench(bench) => print(run(bench, count_for(bench))),
+    let m = ahead(&word[..n]);
+    match bench_of(&word[..m]) {
+        Named::Bench(bench) => print(run(bench, m < n, count_for(bench))),
         Named::Unknown => {
             io::write_all(
                 STDERR_FILENO,
-                b"bench: root, advance, lambert, theta or list, and a count\n",
+                b"bench: root, advance, lambert, theta or list, with -inputs behind it or not, and a count\n",
             );
         }
     }

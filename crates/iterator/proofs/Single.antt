@@ -1,4 +1,4 @@
--- The single trial in a run: from a sound start, and with a judge whose times are judged by `judgedOf`, it is never refused,
+-- The trial of a run: from a sound start, and with a judge whose times are judged by `judgedOf`, it is never refused,
 -- its points are the run's own, and none is left exactly at neighbours. Assumes nothing.
 use Prim.Native.Nat.{ℕ, zero, suc, _+_, _*_, _^_, _≤_, _<_}
 use native.Mathlib.Omega.{arith}
@@ -13,7 +13,7 @@ use Rattle.real.specs.F64.{_≤ᶠ_, finite}
 use Rattle.iterator.specs.Judged.{inTime, judgedOf}
 use Rattle.iterator.specs.Rule.{Grid, widthOf}
 use Rattle.iterator.specs.Run.{narrowed, nextPoint, next, more, run}
-use Rattle.iterator.specs.Single.{timeFinite, allFinite, inGrid, timeInTime, allInTime, isBelow, isAbove, agrees, endsAgree, soundOf, trialOf}
+use Rattle.iterator.specs.Single.{timeFinite, allFinite, inGrid, timeInTime, allInTime, isBelow, isAbove, agrees, endsAgree, soundOf, nextTrialOf, trialOf}
 use Rattle.iterator.specs.declared.Judgement.{Judgement}
 use Rattle.iterator.specs.declared.Judgement.the-variants.{Low, High, Under, Over}
 use Rattle.iterator.specs.declared.Bracket.{Bracket}
@@ -237,30 +237,36 @@ module _ (judge : ℤ → Judgement) (asked : Float) (told : (n : ℤ) → Told 
   pub run-sound : (s : Bracket) → Sound asked s → Sound asked (run judge asked s)
   run-sound s h = run-keeps judge asked (Sound asked) next-sound s h
 
--- ---- the single trial on a sound bracket: the run's next point, or none left at neighbours; so never a refusal
+-- ---- the trial of a run on a sound bracket: its next point, or none left at neighbours; so never a refusal
+next-trial-is : {asked : Float} {s : Bracket} → Sound asked s
+    → nextTrialOf asked (s .lo) (s .hi) (s .below) (s .above) (s .count + 1) ≡ cond (more s) (Point (nextPoint asked s)) NoneLeft
+unfolding nextTrialOf
+next-trial-is {asked} {s} h = simp (in-grid-is h)
+
+-- and the single trial's answer is the same
 pub trial-is : {asked : Float} {s : Bracket} → Sound asked s
-    → trialOf asked (s .lo) (s .hi) (s .below) (s .above) (s .count + 1) ≡ cond (more s) (Point (nextPoint asked s)) NoneLeft
+    → trialOf asked (s .lo) (s .hi) (s .below) (s .above) (s .count + 1) ≡ nextTrialOf asked (s .lo) (s .hi) (s .below) (s .above) (s .count + 1)
 unfolding trialOf
 trial-is {asked} {s} h = simp (finite-is h, sound-is h)
 
 -- the same, from what it answers
 module _ {asked : Float} {s : Bracket} (h : Sound asked s) where
-  pub at-point : (n : ℤ) → trialOf asked (s .lo) (s .hi) (s .below) (s .above) (s .count + 1) ≡ Point n → (1 < widthOf (s .lo) (s .hi)) × (n ≡ nextPoint asked s)
-  at-point n e = go (more s) refl (sym e ∙ trial-is h)
+  pub at-point : (n : ℤ) → nextTrialOf asked (s .lo) (s .hi) (s .below) (s .above) (s .count + 1) ≡ Point n → (1 < widthOf (s .lo) (s .hi)) × (n ≡ nextPoint asked s)
+  at-point n e = go (more s) refl (sym e ∙ next-trial-is h)
     where
       go : (t : Bool) → more s ≡ t → Point n ≡ cond t (Point (nextPoint asked s)) NoneLeft → (1 < widthOf (s .lo) (s .hi)) × (n ≡ nextPoint asked s)
       go true t q = (ltb-true 1 (widthOf (s .lo) (s .hi)) t, cc)
       go false t q = let z : _≡_ {A = ℕ} 0 1 = cc in absurd (zero-one z)
 
-  pub at-none : trialOf asked (s .lo) (s .hi) (s .below) (s .above) (s .count + 1) ≡ NoneLeft → widthOf (s .lo) (s .hi) ≤ 1
-  at-none e = go (more s) refl (sym e ∙ trial-is h)
+  pub at-none : nextTrialOf asked (s .lo) (s .hi) (s .below) (s .above) (s .count + 1) ≡ NoneLeft → widthOf (s .lo) (s .hi) ≤ 1
+  at-none e = go (more s) refl (sym e ∙ next-trial-is h)
     where
       go : (t : Bool) → more s ≡ t → NoneLeft ≡ cond t (Point (nextPoint asked s)) NoneLeft → widthOf (s .lo) (s .hi) ≤ 1
       go true t q = let z : _≡_ {A = ℕ} 0 1 = cc in absurd (zero-one z)
       go false t q = ltb-false 1 (widthOf (s .lo) (s .hi)) t
 
-  pub never-refused : (n : ℕ) → trialOf asked (s .lo) (s .hi) (s .below) (s .above) (s .count + 1) ≡ Refused n → ⊥
-  never-refused n e = go (more s) (sym e ∙ trial-is h)
+  pub never-refused : (n : ℕ) → nextTrialOf asked (s .lo) (s .hi) (s .below) (s .above) (s .count + 1) ≡ Refused n → ⊥
+  never-refused n e = go (more s) (sym e ∙ next-trial-is h)
     where
       go : (t : Bool) → Refused n ≡ cond t (Point (nextPoint asked s)) NoneLeft → ⊥
       go true q = let z : _≡_ {A = ℕ} 0 1 = cc in zero-one z

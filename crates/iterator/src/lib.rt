@@ -5,7 +5,7 @@ ghost use Prim.Native.Nat.{_<_};
 ghost use Rattle.iterator.specs.Judged.{inTime, judgedOf};
 ghost use Rattle.iterator.specs.Rule.{Grid, widthOf, within, secantOf, strideOf, pointOf};
 ghost use Rattle.iterator.specs.Single.{timeFinite, allFinite, inGrid, timeInTime, allInTime};
-ghost use Rattle.iterator.specs.Single.{isBelow, agrees, endsAgree, soundOf, trialOf};
+ghost use Rattle.iterator.specs.Single.{isBelow, agrees, endsAgree, soundOf, nextTrialOf, trialOf};
 
 // Low and high carry the time found; under is too fast and over too slow to have one.
 pub enum Judgement {
@@ -226,6 +226,20 @@ fn sound(asked: f64, lo: i64, hi: i64, below: Judgement, above: Judgement) -> bo
     ends_agree(asked, below, above)
 }
 
+// The k-th trial of a run, whose judgements are taken as they are: its point, or at hi - lo = 1 that none is left.
+// Only the ends are tested, for the grid.
+pub fn next_trial(asked: f64, lo: i64, hi: i64, below: Judgement, above: Judgement, k: u64) -> Tried
+    ensures { λ r. ⌜ r ≡ nextTrialOf asked lo hi below above k ⌝ }
+{
+    if !in_grid(lo, hi) {
+        return Tried::Refused(6);
+    }
+    if 1 < width(lo, hi) {
+        return Tried::Point(place(asked, lo, hi, below, above, k));
+    }
+    Tried::NoneLeft
+}
+
 // A single trial called from outside, the k-th.
 pub fn trial(asked: f64, lo: i64, hi: i64, below: Judgement, above: Judgement, k: u64) -> Tried
     ensures { λ r. ⌜ r ≡ trialOf asked lo hi below above k ⌝ }
@@ -236,8 +250,5 @@ pub fn trial(asked: f64, lo: i64, hi: i64, below: Judgement, above: Judgement, k
     if !sound(asked, lo, hi, below, above) {
         return Tried::Refused(6);
     }
-    if 1 < width(lo, hi) {
-        return Tried::Point(place(asked, lo, hi, below, above, k));
-    }
-    Tried::NoneLeft
+    next_trial(asked, lo, hi, below, above, k)
 }

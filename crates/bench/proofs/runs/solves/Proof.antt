@@ -5,10 +5,10 @@ use Rattle.bench.proofs.runs.solves.Statement.{statement}
 use Rattle.bench.proofs.runs.solves.Tie as tie
 
 abbrev Inv-loop : tie.InvT-loop
-Inv-loop bench count from₀ sum₀ k₀ from sum k = k ≤ count
+Inv-loop bench bare count from₀ sum₀ k₀ from sum k = k ≤ count
 
 abbrev μ-loop : tie.MeasureT-loop
-μ-loop bench count from₀ sum₀ k₀ from sum k = count - k
+μ-loop bench bare count from₀ sum₀ k₀ from sum k = count - k
 
 loop-holds : tie.Need-loop-holds Inv-loop μ-loop
 loop-holds c = search needs
