@@ -41,7 +41,6 @@ fn advance(bare: bool, from: &mut u64, sum: u64) -> u64 {
     match solve::advance(mu, s, t) {
         Advanced::Found(to, x, _) => fold::state(fold::solution(sum, x), to),
         Advanced::TooLong => fold::refusal(sum, 7),
-        Advanced::TooShort => fold::refusal(sum, 8),
         Advanced::Refused(no) => fold::refusal(sum, no),
     }
 }

@@ -81,7 +81,6 @@ transfer-short v x =
 pub advanced-fits : (a : Advanced) → size (advancedPieces a) ≤ 512
 advanced-fits (Ad.Found s x turns) = orbit-short s x turns
 advanced-fits Ad.TooLong = refused-fits (advancedNumber Ad.TooLong)
-advanced-fits Ad.TooShort = refused-fits (advancedNumber Ad.TooShort)
 advanced-fits (Ad.Refused n) = refused-fits (advancedNumber (Ad.Refused n))
 
 pub transferred-fits : (a : Transferred) → size (transferredPieces a) ≤ 512

@@ -63,7 +63,6 @@ transferPieces v x = donePieces x ++ (velocityPieces (v .x) (v .y) (v .z) ++ end
 abbrev pub advancedPieces : Advanced → List (List ℕ)
 advancedPieces (Ad.Found s x turns) = orbitPieces s x turns
 advancedPieces Ad.TooLong = refusedPieces (advancedNumber Ad.TooLong)
-advancedPieces Ad.TooShort = refusedPieces (advancedNumber Ad.TooShort)
 advancedPieces (Ad.Refused n) = refusedPieces (advancedNumber (Ad.Refused n))
 
 abbrev pub transferredPieces : Transferred → List (List ℕ)

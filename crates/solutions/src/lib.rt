@@ -95,7 +95,6 @@ pub fn tell_advance(buf: &mut [u8], a: Advanced) -> usize
     match a {
         Advanced::Found(s, x, turns) => orbit(buf, s, x, turns),
         Advanced::TooLong => columns::refused(buf, 7),
-        Advanced::TooShort => columns::refused(buf, 8),
         Advanced::Refused(n) => columns::refused(buf, n),
     }
 }
