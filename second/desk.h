@@ -15,7 +15,7 @@ typedef struct { const char *name, *words; } form;
 
 extern const form forms[ROUTINES];
 
-enum { WORDS_MAX = 9, LINE_MAX = 1000, ANSWER_MAX = 800 };
+enum { WORDS_MAX = 12, LINE_MAX = 1000, ANSWER_MAX = 800 };
 
 typedef union {
     double number;
