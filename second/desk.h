@@ -2,6 +2,7 @@
 #ifndef DESK_H
 #define DESK_H
 
+#include "conic.h"
 #include "iterator.h"
 
 #include <stddef.h>
@@ -9,19 +10,19 @@
 enum routine { ROOT, C, S, TRIAL, KEPLER, LAMBERT, THETA, APSIDES, ROUTINES };
 
 /* A routine's name and a letter for each word behind it:
- * n a number, i a whole number (i64), k a trial's number (u64), j a judgement, w short or long. */
+ * n a number, i a whole number (i64), k a count (u64), j a judgement, w the way round: short, long, or normal and three numbers. */
 typedef struct { const char *name, *words; } form;
 
 extern const form forms[ROUTINES];
 
-enum { WORDS_MAX = 9, LINE_MAX = 1000, ANSWER_MAX = 800 };
+enum { WORDS_MAX = 12, LINE_MAX = 1000, ANSWER_MAX = 800 };
 
 typedef union {
     double number;
     int64_t whole;
     uint64_t count;
     judgement judgement;
-    bool long_way;
+    way way;
 } word;
 
 typedef struct { enum routine routine; word words[WORDS_MAX]; } request;
