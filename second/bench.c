@@ -120,7 +120,8 @@ static uint64_t nearest_root(uint64_t a)
     return (by_digits(a) + 1) / 2;
 }
 
-static double square_root_by_steps(double x)
+/* Not laid out at its one call: the Rattle root, which all formulas share, is called too. */
+__attribute__((noinline)) static double square_root_by_steps(double x)
 {
     if (x != x)
         return x;

@@ -5,6 +5,7 @@
 #include "session.h"
 
 #include <stdio.h>
+#include <string.h>
 
 static int64_t some_time(void)
 {
@@ -62,12 +63,56 @@ static void damage(session *s, uint64_t records)
     if (field == 7) {
         static const uint8_t tops[] = { 0x7F, 0xFF };
         size_t number = place + 14 + 8 * below((s->bytes[place] - 14) / 8);
+        memset(s->bytes + number, 0, one_in(2) ? 6 : 0); /* infinite, or not a number */
         s->bytes[number + 7] = tops[below(2)];
         s->bytes[number + 6] = (uint8_t)(0xEF + below(3));
         return;
     }
     uint8_t *byte = s->bytes + place + (field < 6 ? field : below(14));
     *byte = (uint8_t)(below(2) ? roll() : *byte + below(5) - 2);
+}
+
+/* Two different faults in one record: only the order of the reader's tests says which of them is told. */
+
+enum fault { SHORT_LENGTH, WRONG_LENGTH, KIND, VEHICLE, BYTE, NUMBER, CUT, FAULTS };
+
+static void inflict(session *s, size_t place, enum fault fault)
+{
+    uint8_t *at = s->bytes + place;
+    switch (fault) {
+    case SHORT_LENGTH:
+        at[0] = (uint8_t)below(4);
+        break;
+    case WRONG_LENGTH:
+        at[0] = (uint8_t)(4 + below(90));
+        break;
+    case KIND:
+        at[2] = (uint8_t)(one_in(2) ? 0 : 4 + below(3));
+        break;
+    case VEHICLE:
+        at[4] = (uint8_t)(2 + below(2));
+        break;
+    case BYTE:
+        at[5] = 2;
+        break;
+    case NUMBER:
+        at[20] = 0xF0;
+        at[21] = 0x7F;
+        break;
+    default: /* behind the header, behind the vehicle, anywhere */
+        s->size = place + (one_in(3) ? 4 : 4 + below(26));
+    }
+}
+
+static void damage_twice(session *s, uint64_t records)
+{
+    size_t place = 0;
+    for (uint64_t k = below(records); k > 0; k--)
+        place += s->bytes[place];
+    enum fault first = (enum fault)below(FAULTS);
+    enum fault second = (enum fault)((first + 1 + below(FAULTS - 1)) % FAULTS);
+    inflict(s, place, first);
+    inflict(s, place, second);
 }
 
 /* 65,536 bytes of whole records and a few bytes more or less. */
@@ -105,9 +150,13 @@ static void make_session(session *s, uint64_t turn)
     case 1:
         add_some(s, below(20));
         break;
-    default:
+    case 2:
         add_some(s, records);
         damage(s, records);
+        break;
+    default:
+        add_some(s, records);
+        damage_twice(s, records);
     }
 }
 

@@ -1,29 +1,25 @@
 #!/usr/bin/env bash
-# The speed of each routine as a ratio to the same work in C, for ./cabin bench, which proves and builds the Rattle side
-# and lends `home`, `say`, `fail` and `toolchain`. Both programs are built for x86-64, do the same series of solves
-# (second/README.md) and run in turn, five times each; off x86-64 both run under the kit's emulator. A run of the same
-# series with nothing solved is taken off each time, so that a figure is of the solves alone.
-# Exits 1 where their checksums differ.
-set -euo pipefail
-export LC_ALL=C
-declare -F toolchain >/dev/null || exec "$(dirname "${BASH_SOURCE[0]}")/../cabin" bench
+# ./cabin bench: the speed of each routine as a ratio to the same work in C. Both programs are built for x86-64, do the
+# same series of solves (second/README.md) and run in turn, five times each; off x86-64 both run under the kit's emulator.
+# A run of the same series with nothing solved is taken off each time, so that a figure is of the solves alone.
+# It fails where their checksums differ.
+home=$(cd "$(dirname "${BASH_SOURCE[0]}")/.." && pwd -P)
+. "$home/tools/front.sh"
 
 runs=5
 # the Rattle side's series, the C side's, and how many solves
 benches=(root:root-by-steps:4000000 root:root:4000000 advance:advance:100000 lambert:lambert:20000 theta:theta:200000 list:list:1000)
 
-# Debian's cross compiler, where the machine's own is for another processor.
-cross_compiler() {
-    command -v x86_64-linux-gnu-gcc >/dev/null && return
-    say "installing Debian's gcc-x86-64-linux-gnu and libc6-dev-amd64-cross, which build the C side for x86-64"
-    { apt-get update && apt-get install -y gcc-x86-64-linux-gnu libc6-dev-amd64-cross; } >&2 ||
-        fail "they could not be installed: install gcc-x86-64-linux-gnu and libc6-dev-amd64-cross, then try again"
-}
-
 # At -O3, C at its best; static, so that it needs no loader; without libm, whose one function is an instruction.
 build_c() {
     local cc=gcc
-    [ "$(uname -m)" = x86_64 ] || { cross_compiler && cc=x86_64-linux-gnu-gcc; }
+    if [ "$(uname -m)" = x86_64 ]; then
+        need gcc gcc libc6-dev
+    else
+        cc=x86_64-linux-gnu-gcc
+        need "$cc" gcc-x86-64-linux-gnu libc6-dev-amd64-cross
+    fi
+    need make make
     make -s -C "$home/second" CC=$cc OPT=-O3 OUT=../target/second-x86-64 LDFLAGS=-static LDLIBS= >&2 ||
         fail "the second program could not be built for x86-64"
 }
@@ -43,7 +39,7 @@ both() { # RATTLE-SERIES C-SERIES COUNT RATTLE-FILE C-FILE
     local a b
     a=$(timed "$4" "${rattle[@]}" "$1" "$3")
     b=$(timed "$5" "${c[@]}" "$2" "$3")
-    [ "$a" = "$b" ] || fail "$2: the answers differ: checksum $a in Rattle, $b in C" 1
+    [ "$a" = "$b" ] || fail "$2: the answers differ: checksum $a in Rattle, $b in C"
 }
 
 compare() { # RATTLE-SERIES C-SERIES COUNT
@@ -61,14 +57,14 @@ compare() { # RATTLE-SERIES C-SERIES COUNT
         }'
 }
 
+ready bench
 build_c
-tools=$(toolchain)
 emulator=()
-[ -x "$tools/bin/qemu-x86_64" ] && emulator=("$tools/bin/qemu-x86_64")
-rattle=("${emulator[@]}" "$tools/lib/ld-linux-x86-64.so.2" --library-path "$tools/lib" "$home/target/bin/bench")
+[ ${#start[@]} -eq 3 ] || emulator=("${start[0]}")
+rattle=("${start[@]}" "${program[bench]}")
 c=("${emulator[@]}" "$home/target/second-x86-64/second" bench)
 times=$(mktemp -d)
-trap 'rm -rf "$times"' EXIT
+clean+=("$times")
 
 printf '%-14s %10s %12s %12s %8s\n' bench count 'Rattle ns' 'C ns' ratio
 for one in "${benches[@]}"; do

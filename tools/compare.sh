@@ -1,53 +1,61 @@
 #!/usr/bin/env bash
-# The linked programs against the second program (second/), on stored and on fresh requests and sessions.
-# The seed of the fresh ones is printed; CABIN_SEED=N ./cabin test makes the same again.
-set -euo pipefail
-cd "$(dirname "${BASH_SOURCE[0]}")/.."
+# compare.sh stored | requests | sessions: the linked programs against the second program (second/), on the stored requests,
+# on fresh ones, and on fresh sessions. The seed of the fresh ones is printed; CABIN_SEED=N makes the same again.
+home=$(cd "$(dirname "${BASH_SOURCE[0]}")/.." && pwd -P)
+. "$home/tools/front.sh"
+cd "$home"
 
 requests=100000
 sessions=1000
 seed=${CABIN_SEED:-$(date +%s)}
-room=target/compare
-rm -rf "$room"
-mkdir -p "$room/sessions"
-
-make -s -C second
+room=target/compare/$1
 second=target/second/second
 
-echo "pages"
-python3 tools/pages.py
+stored() {
+    python3 tools/stored.py --check
+    "$second" desk <crates/desk/stdin >"$room/stored"
+    python3 second/compare.py crates/desk/stdout "$room/stored" crates/desk/stdin
+}
 
-echo "the listing, on whole, cut, damaged and over-long sessions"
-python3 tools/make_sample.py --check
-python3 tools/listing_runs.py
+# The lines of $room/requests, asked of both.
+ask_both() {
+    ready desk
+    "$second" desk <"$room/requests" >"$room/second"
+    run desk <"$room/requests" >"$room/desk"
+    python3 second/compare.py "$room/desk" "$room/second" "$room/requests"
+}
 
-echo "stored requests"
-python3 tools/stored.py --check
-"$second" desk <crates/desk/stdin >"$room/stored"
-python3 second/compare.py crates/desk/stdout "$room/stored" crates/desk/stdin
+requests() {
+    echo "hard roots"
+    python3 tools/root_cases.py >"$room/requests"
+    ask_both
+    echo "$requests fresh requests, seed $seed"
+    "$second" requests "$seed" "$requests" >"$room/requests"
+    ask_both
+}
 
-echo "hard roots"
-python3 tools/root_cases.py >"$room/requests"
-"$second" desk <"$room/requests" >"$room/second"
-./cabin run desk <"$room/requests" >"$room/desk"
-python3 second/compare.py "$room/desk" "$room/second" "$room/requests"
+sessions() {
+    local session wrong=0
+    echo "$sessions fresh sessions, seed $seed"
+    ready listing
+    mkdir "$room/sessions"
+    "$second" sessions "$seed" "$sessions" "$room/sessions"
+    for session in "$room"/sessions/*; do
+        "$second" list "$session" >"$room/second" || [ $? -eq 1 ]
+        run listing "$session" >"$room/listing"
+        if ! cmp -s "$room/second" "$room/listing"; then
+            wrong=$((wrong + 1))
+            echo "$session: the listing ends '$(tail -n 1 "$room/listing")', the second program's '$(tail -n 1 "$room/second")'"
+        fi
+    done
+    echo "$sessions sessions, $wrong differences"
+    [ "$wrong" -eq 0 ]
+}
 
-echo "$requests fresh requests, seed $seed"
-"$second" requests "$seed" "$requests" >"$room/requests"
-"$second" desk <"$room/requests" >"$room/second"
-./cabin run desk <"$room/requests" >"$room/desk"
-python3 second/compare.py "$room/desk" "$room/second" "$room/requests"
-
-echo "$sessions fresh sessions, seed $seed"
-"$second" sessions "$seed" "$sessions" "$room/sessions"
-wrong=0
-for session in "$room"/sessions/*; do
-    "$second" list "$session" >"$room/second" || true
-    ./cabin run listing "$session" >"$room/listing"
-    if ! cmp -s "$room/second" "$room/listing"; then
-        wrong=$((wrong + 1))
-        echo "$session: the listing ends '$(tail -n 1 "$room/listing")', the second program's '$(tail -n 1 "$room/second")'"
-    fi
-done
-echo "$sessions sessions, $wrong differences"
-[ "$wrong" -eq 0 ]
+need make make
+need gcc gcc libc6-dev
+need python3 python3
+rm -rf "$room"
+mkdir -p "$room"
+make -s -C second
+"$1"

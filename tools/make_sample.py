@@ -1,5 +1,5 @@
 #!/usr/bin/env python3
-"""make_sample: writes the sample session, and what the listing program is run on and must write.
+"""make_sample: writes the sample sessions, one whole and one damaged, and what the listing program is run on and must write.
 
   tools/make_sample.py           write the files
   tools/make_sample.py --check   say which differ from what would be written, and exit 1 if one does
@@ -75,6 +75,16 @@ def sample():
     ])
 
 
+def damaged():
+    """Two states, and at byte 124 a mark whose kind is 9."""
+    mark = record(MARK, 0, 0, 0, 44_721.4, -0.36)
+    return b''.join([
+        record(STATE, 0, 1, -360_000, 1.85e6, 0.0, 0.0, 0.0, 16.28, 0.0),
+        record(STATE, 1, 1, -1, 1.83e6, -4.0e4, 0.0, 0.35, 16.37, 0.0),
+        mark[:2] + struct.pack('<H', 9) + mark[4:],
+    ])
+
+
 def files():
     """The files that this script writes, with their contents."""
     whole = sample()
@@ -82,6 +92,7 @@ def files():
     refused = whole + ends + struct.pack('<HH', 38, 4)
     return {
         'samples/session.bin': whole,
+        'samples/damaged.bin': damaged(),
         'crates/listing/data/session': refused,
         'crates/listing/stdout': listing(refused),
     }

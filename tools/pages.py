@@ -1,6 +1,13 @@
 #!/usr/bin/env python3
 """The pages are true: each block of a page is run and gives what stands there, and the refusal numbers of a page are
-those that its routine's definitions can give."""
+those that its routine's definitions can give.
+
+  tools/pages.py           say what is not true
+  tools/pages.py --write   put what the programs give into the blocks, then say what is left
+
+A block is ```desk (requests behind `> `), ```list FILE, or ```shell (commands behind `$ `, run in the project's root;
+what they say on standard error is not shown).
+"""
 import pathlib
 import re
 import subprocess
@@ -61,32 +68,60 @@ def numbers_on(text):
     return {number for cell in cells for number in re.findall(r"\d+", cell)}
 
 
-def program(name, *words, given=""):
-    ran = subprocess.run([CABIN, "run", name, *words], input=given, capture_output=True, text=True, cwd=ROOT)
-    return ran.stdout
+# ---- blocks
+
+BLOCK = re.compile(r"^```(desk|list \S+|shell)\n(.*?)^```$", re.M | re.S)
 
 
-def faults_of_blocks(page, text):
-    for head, body in re.findall(r"^```(desk|list \S+)\n(.*?)^```$", text, re.M | re.S):
-        if head == "desk":
-            asked = re.findall(r"^> (.*)\n", body, re.M)
-            wanted = "".join(re.findall(r"^(?!> ).*\n", body, re.M))
-            got = program("desk", given="".join(line + "\n" for line in asked))
-        else:
-            wanted, got = body, program("listing", head.split()[1])
-        if got != wanted:
-            yield f"{page}: a block shows\n{wanted}and the program gives\n{got}"
+def ran(*words, given=""):
+    return subprocess.run(words, input=given, capture_output=True, text=True, cwd=ROOT).stdout
+
+
+def replies(bodies):
+    """request -> the desk's answer, of every request of the desk's blocks, asked in one run. A line that asks for
+    nothing gets no answer."""
+    asked = [line for body in bodies for line in re.findall(r"^> (.*)\n", body, re.M) if line.strip() and line[0] != "#"]
+    got = ran(CABIN, "run", "desk", given="".join(line + "\n" for line in asked)).split("\n")[:-1]
+    return dict(zip(asked, got + ["(no answer)"] * len(asked)))
+
+
+def answered(body, prompt, answer):
+    """A block's questions, each with its answer behind it."""
+    asked = re.findall(rf"^{re.escape(prompt)} (.*)\n", body, re.M)
+    return "".join(f"{prompt} {line}\n{answer(line)}" for line in asked)
+
+
+def renewed(head, body, desk):
+    """What a block must hold."""
+    if head == "desk":
+        return answered(body, ">", lambda line: f"{desk[line]}\n" if line in desk else "")
+    if head == "shell":
+        return answered(body, "$", lambda line: ran("bash", "-c", line))
+    return ran(CABIN, "run", "listing", head.split()[1])
+
+
+def faults_of(page, text, whole):
+    for (head, body), (_, wanted) in zip(BLOCK.findall(text), BLOCK.findall(whole)):
+        if body != wanted:
+            yield f"{page}: a block shows\n{body}and the program gives\n{wanted}"
+    if page in CASES and numbers_on(text) != numbers_defined(page):
+        yield f"{page}: the page has {sorted(numbers_on(text), key=int)}, the definitions {sorted(numbers_defined(page), key=int)}"
 
 
 def main():
-    faults, blocks = [], 0
-    for path in sorted(PAGES.glob("*.md")) + [ROOT / "README.md"]:
-        text, page = path.read_text(), path.stem
-        blocks += len(re.findall(r"^```(?:desk|list)", text, re.M))
-        faults += faults_of_blocks(page, text)
-        if page in CASES and numbers_on(text) != numbers_defined(page):
-            faults.append(f"{page}: the page has {sorted(numbers_on(text), key=int)}, the definitions {sorted(numbers_defined(page), key=int)}")
-    print("\n".join(faults + [f"{len(CASES)} pages with refusals, {blocks} blocks, {len(faults)} faults"]))
+    write = sys.argv[1:] == ["--write"]
+    paths = sorted(PAGES.glob("*.md")) + [ROOT / "README.md"]
+    texts = {path: path.read_text() for path in paths}
+    blocks = [block for text in texts.values() for block in BLOCK.findall(text)]
+    desk = replies([body for head, body in blocks if head == "desk"])
+    faults = []
+    for path, text in texts.items():
+        whole = BLOCK.sub(lambda found: f"```{found[1]}\n{renewed(found[1], found[2], desk)}```", text)
+        if write and whole != text:
+            path.write_text(whole)
+            print(f"{path.relative_to(ROOT)} written anew")
+        faults += faults_of(path.stem, whole if write else text, whole)
+    print("\n".join(faults + [f"{len(CASES)} pages with refusals, {len(blocks)} blocks, {len(faults)} faults"]))
     return 1 if faults else 0
 
 

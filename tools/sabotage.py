@@ -1,7 +1,9 @@
 #!/usr/bin/env python3
-"""sabotage: slips made in a copy of the second program, one at a time, and how many of 100,000 answers change.
+"""sabotage: slips made in a copy of the second program, one at a time, and how many answers change.
 
-Prints the table of docs/TESTS.md; ends with 1 if a slip changes none."""
+  tools/sabotage.py [WORD]   the slips whose name has WORD in it, or all
+
+Prints the tables of docs/TESTS.md; ends with 1 if a slip changes none."""
 import pathlib
 import shutil
 import subprocess
@@ -10,7 +12,7 @@ import sys
 ROOT = pathlib.Path(__file__).resolve().parent.parent
 ROOM = ROOT / "target" / "sabotage"
 
-SLIPS = [
+REQUESTS = [
     ("a wrong divisor of c", "series.c", "{ 12, 30, 56, 90, 132,", "{ 12, 30, 56, 90, 134,"),
     ("a wrong divisor of s", "series.c", "210, 272, 342 }", "210, 272, 340 }"),
     ("divisors walked from first to last", "series.c", "for (int k = 8; k-- > 0;)", "for (int k = 0; k < 8; k++)"),
@@ -41,33 +43,72 @@ SLIPS = [
 ]
 
 
+SESSIONS = [
+    ("days cut towards zero", "session.c", "int64_t day = r->time / DAY - (r->time % DAY < 0);", "int64_t day = r->time / DAY;"),
+    ("a session of 65,537 bytes let in", "session.c", "if (size > SESSION_MAX)", "if (size > SESSION_MAX + 1)"),
+    ("the end not told from a cut", "session.c", "return (reading){ .end = true, .place = place };", "return refused(11, place);"),
+    ("under 5 bytes left for under 4", "session.c", "if (left < 4)", "if (left < 5)"),
+    ("a length under 4 not tested first", "session.c", "if (length < 4)", "if (0)"),
+    ("the length tested before the kind", "session.c", "    if (kind < STATE", "    if (length != 62 && length != 38 && length != 30)\n        return refused(12, place);\n    if (kind < STATE"),
+    ("11 before the kind's 12", "session.c", "    if (length != length_of(kind))", "    if (left < length)\n        return refused(11, place);\n    if (length != length_of(kind))"),
+    ("14 before 11", "session.c", "    if (left < length)", "    if (left > 4 && at[4] > 1)\n        return refused(14, place);\n    if (left < length)"),
+    ("vehicle 2 let in", "session.c", "r->vehicle > 1", "r->vehicle > 2"),
+    ("a burn's byte not tested", "session.c", '[BURN] = { "burn", 3, 0 }', '[BURN] = { "burn", 3, 255 }'),
+    ("infinite numbers let in", "session.c", "if (!isfinite(r->numbers[k]))", "if (isnan(r->numbers[k]))"),
+]
+
+
 def built(source):
     out = ROOM / "bin"
-    subprocess.run(["make", "-s", "-C", source, f"OUT={out}"], check=True)
+    subprocess.run(["make", "-s", "-C", source, "OPT=-O1", f"OUT={out}"], check=True)
     return out / "second"
 
 
-def answers(program, requests):
-    return subprocess.run([program, "desk"], input=requests, capture_output=True, check=True).stdout.split(b"\n")
+def output(*words, **how):
+    return subprocess.run(words, capture_output=True, **how).stdout
+
+
+def requests(program):
+    """What the desk answers to 100,000 fresh requests."""
+    path = ROOM / "requests"
+    if not path.exists():
+        path.write_bytes(output(program, "requests", "1", "100000"))
+    return output(program, "desk", input=path.read_bytes()).split(b"\n")
+
+
+def sessions(program):
+    """The listings of 1,000 fresh sessions."""
+    folder = ROOM / "sessions"
+    if not folder.exists():
+        folder.mkdir()
+        output(program, "sessions", "1", "1000", folder)
+    return [output(program, "list", path) for path in sorted(folder.iterdir())]
+
+
+def changed(source, file, old, new, answers, right):
+    """How many answers a slip changes."""
+    text = (source / file).read_text()
+    assert text.count(old) == 1, (file, old, text.count(old))
+    (source / file).write_text(text.replace(old, new))
+    wrong = sum(a != b for a, b in zip(right, answers(built(source)), strict=True))
+    (source / file).write_text(text)
+    return wrong
 
 
 def main():
+    word = sys.argv[1] if len(sys.argv) > 1 else ""
     shutil.rmtree(ROOM, ignore_errors=True)
     source = ROOM / "second"
     shutil.copytree(ROOT / "second", source)
-    program = built(source)
-    requests = subprocess.run([program, "requests", "1", "100000"], capture_output=True, check=True).stdout
-    right = answers(program, requests)
     unseen = 0
-    print("| slip | answers that change |\n|---|---|")
-    for name, file, old, new in SLIPS:
-        text = (source / file).read_text()
-        assert text.count(old) == 1, (name, text.count(old))
-        (source / file).write_text(text.replace(old, new))
-        wrong = sum(a != b for a, b in zip(right, answers(built(source), requests)))
-        (source / file).write_text(text)
-        unseen += wrong == 0
-        print(f"| {name} | {wrong} |", flush=True)
+    for slips, answers, heading in ((REQUESTS, requests, "answers that change"), (SESSIONS, sessions, "listings that change")):
+        slips = [slip for slip in slips if word in slip[0]]
+        right = answers(built(source)) if slips else []
+        print(f"\n| slip | {heading} |\n|---|---|")
+        for name, *slip in slips:
+            wrong = changed(source, *slip, answers, right)
+            unseen += wrong == 0
+            print(f"| {name} | {wrong} |", flush=True)
     return 1 if unseen else 0
 
 

@@ -1,32 +1,59 @@
 #!/usr/bin/env bash
-# ./cabin test: what the pages promise, the proofs, the programs, and the comparison with the second program.
-# Its last line is the prover's own count; whatever fails ends it with a status that is not 0.
-set -euo pipefail
-cd "$(dirname "${BASH_SOURCE[0]}")/.."
+# ./cabin test: what the pages promise, the proofs, the programs, and the comparison with the second program. Every part
+# is made, whatever became of those ahead of it. The last line is the count: what the prover passed and refused, and a
+# part for each of the others.
+home=$(cd "$(dirname "${BASH_SOURCE[0]}")/.." && pwd -P)
+. "$home/tools/front.sh"
+cd "$home"
 
-step() { printf '\n== %s\n' "$*"; }
+passed=0 failed=0 wrong=()
 
-step "layout"
-rt fmt --check
+part() { # NAME COMMAND..
+    printf '\n== %s\n' "$1"
+    if "${@:2}"; then
+        passed=$((passed + 1))
+    else
+        failed=$((failed + 1))
+        wrong+=("$1")
+    fi
+}
 
-step "promises"
-python3 tools/promises.py
+# From nothing, with the prover's own count; its lines are printed as they come, and the count is kept for the end. What
+# was proved is made ready, and from then on nothing is built: a part that lacks its program fails at once.
+proofs() {
+    local log=$keep/gate.log
+    printf '\n== proofs, must-fail edits, programs\n'
+    lock
+    rt ci 2>&1 | tee "$log" | sed -u '/^[0-9]* passed, [0-9]* failed$/d' || true
+    unlock
+    if [[ $(tail -n 1 "$log") =~ ^([0-9]+)\ passed,\ ([0-9]+)\ failed$ ]]; then
+        passed=$((passed + BASH_REMATCH[1])) failed=$((failed + BASH_REMATCH[2]))
+        [ "${BASH_REMATCH[2]}" -eq 0 ] || wrong+=(proofs)
+    else
+        failed=$((failed + 1)) wrong+=("proofs, which gave no count")
+    fi
+    for main in crates/*/src/main.rt; do
+        ./cabin ready "$(basename "${main%/src/main.rt}")" || true
+    done
+    export CABIN_BUILD=no
+}
 
-step "proofs, must-fail edits, programs"
-mkdir -p target
-log=$(mktemp)
-trap 'rm -f "$log"' EXIT
-# everything is printed as it comes, and the count is kept for the end
-rt ci 2>&1 | tee "$log" | sed -u '$d'
-count=$(tail -n 1 "$log")
-case $count in
-*" passed, 0 failed"*) ;;
-*) printf '%s\n' "$count"; exit 1 ;;
-esac
+need_kit
+need python3 python3
+part "layout" rt fmt --check
+part "promises" python3 tools/promises.py
+part "rules" python3 tools/rules.py
+proofs
+part "pages" python3 tools/pages.py
+part "published cases" python3 tools/published.py
+part "sample" python3 tools/make_sample.py --check
+part "the listing, on whole, cut, damaged and over-long sessions" python3 tools/listing_runs.py
+part "the front, where things go wrong" python3 tools/front_runs.py
+part "stored requests" bash tools/compare.sh stored
+part "fresh requests" bash tools/compare.sh requests
+part "fresh sessions" bash tools/compare.sh sessions
 
-if [ -f tools/compare.sh ]; then
-    step "comparison with the second program"
-    bash tools/compare.sh
-fi
-
-printf '\n%s\n' "$count"
+printf '\n'
+for one in "${wrong[@]}"; do printf 'FAILED: %s\n' "$one"; done
+printf '%s passed, %s failed\n' "$passed" "$failed"
+[ "$failed" -eq 0 ]

@@ -1,0 +1,162 @@
+# shellcheck shell=bash disable=SC2015,SC2034,SC2154
+# What ./cabin and the scripts beside this one stand on: words for people, the kit, the crates, the programs.
+# It is sourced, with `home` set to the folder of the checkout.
+#
+# Exit status everywhere: 0 all is well, 1 something was refused, 2 it could not do its work. 1 comes from `refuse`
+# alone; whatever else goes wrong, foreseen or not, ends in 2.
+set -euo pipefail
+shopt -s inherit_errexit extglob
+export LC_ALL=C
+keep=$home/.cabin # proved programs, each under a name of its own, their logs, and the lock
+failure=2
+clean=() # what goes away at the end
+trap 'status=$?; rm -rf "${clean[@]}"; [ "$status" -eq 0 ] || exit "$failure"' EXIT
+# A write that fails is then an error like any other, and told as such.
+trap '' PIPE XFSZ
+
+say() { printf 'cabin: %s\n' "$*" >&2 || true; }
+fail() { say "$*"; exit 2; }
+refuse() { say "$*"; failure=1; exit 1; }
+
+# A closed stream would be given to the next file that is opened, so none stays closed. (Bash itself puts the script in
+# the place of a closed standard error.)
+open_streams() {
+    has_input=1
+    { true 3>&2; } && [ ! /dev/fd/2 -ef "$0" ] || exec 2>/dev/null
+    { true 3<&0; } 2>/dev/null || { has_input=0; exec </dev/null; }
+    { true 3>&1; } 2>/dev/null || fail "standard output is closed: there is nowhere to write"
+}
+
+# ---- what a machine needs
+
+# Sees to it that a command is there, and installs nothing without a word.
+need() { # COMMAND PACKAGE..
+    command -v "$1" >/dev/null && return
+    say "there is no command '$1' on this machine: installing ${*:2} by apt-get"
+    { apt-get update && apt-get install -y "${@:2}"; } >&2 </dev/null ||
+        fail "it could not be installed: install ${*:2} by hand, then try again"
+}
+
+# The kit, and what starts a program of it: its loader and C library and, off x86-64, its emulator.
+need_kit() {
+    local tools
+    command -v rt >/dev/null || fail "the Rattle kit is not on this machine (no command 'rt'): install it, then try again"
+    tools=$(dirname "$(dirname "$(rt doc)")")/on/$(uname -m)/toolchain
+    start=("$tools/lib/ld-linux-x86-64.so.2" --library-path "$tools/lib")
+    [ ! -x "$tools/bin/qemu-x86_64" ] || start=("$tools/bin/qemu-x86_64" "${start[@]}")
+    unset "${!QEMU_@}"
+}
+
+# ---- crates
+
+# The crates that NAME.. stand on (below) or that stand on them (above), themselves among them.
+related() { # below|above NAME..
+    awk -v way="$1" -v names="${*:2}" '
+        { sub(/#.*/, ""); sub(/:/, " "); ours[$1] }
+        { for (k = 2; k <= NF; k++) if (way == "below") next_to[$1] = next_to[$1] " " $k; else next_to[$k] = next_to[$k] " " $1 }
+        function visit(name,    k, n, list) {
+            if (name in seen || !(name in ours)) return
+            seen[name]
+            print name
+            n = split(next_to[name], list, " ")
+            for (k = 1; k <= n; k++) visit(list[k])
+        }
+        END { n = split(names, list, " "); for (k = 1; k <= n; k++) visit(list[k]) }' "$home/crates.txt"
+}
+
+# A digest of all that a crate's proof and program are made of.
+digest() { # NAME
+    local crates
+    crates=$(related below "$1")
+    [ -n "$crates" ] || fail "there is no crate '$1' in crates.txt"
+    # shellcheck disable=SC2086
+    (
+        cd "$home/crates"
+        rt version
+        uname -m
+        cat ../crates.txt
+        find $crates -name must-fail -prune -o -type f -print0 | sort -z | xargs -0 sha256sum
+    ) | sha256sum | cut -c 1-16
+}
+
+# ---- programs
+
+# One proof at a time in a checkout: who comes second waits.
+lock() {
+    mkdir -p "$keep" 2>/dev/null && [ -w "$keep" ] || fail "$keep cannot be written: prove and build where you may write"
+    exec {lock}>>"$keep/lock"
+    flock -n "$lock" || { say "waiting for another cabin command that proves in this checkout"; flock "$lock"; }
+}
+unlock() { exec {lock}>&-; }
+
+# Tells each crate that is proved.
+progress() { # OF
+    local line k=0
+    while IFS= read -r line; do
+        [[ $line =~ ^rt:\ ([a-z_0-9]+\ proved.*) ]] || continue
+        k=$((k + 1))
+        say "$k of $1: ${BASH_REMATCH[1]}"
+    done
+}
+
+declare -A program # NAME: the path of its proved program
+
+# Proves and builds a program, unless it is there and nothing that it is made of has changed since. A program is moved
+# in whole, so that one that runs is never pulled away; and one whose files changed meanwhile is proved again. Under
+# CABIN_BUILD=no nothing is built: the gate builds once.
+ready() { # NAME
+    local made log=$keep/$1.log
+    need_kit
+    made=$(digest "$1")
+    program[$1]=$keep/$1-$made
+    [ ! -x "${program[$1]}" ] || return 0
+    [ "${CABIN_BUILD:-yes}" = yes ] || fail "'$1' is not built as its files are now"
+    lock
+    while made=$(digest "$1"); program[$1]=$keep/$1-$made; [ ! -x "${program[$1]}" ]; do
+        say "proving and building '$1' (once; a few minutes)"
+        (cd "$home" && rt check "$1") 2>&1 </dev/null | tee "$log" | progress "$(related below "$1" | wc -l)" ||
+            fail "'$1' could not be built: the end of $log says why"
+        [ "$(digest "$1")" = "$made" ] || { say "a file of '$1' changed meanwhile"; continue; }
+        find "$keep" -name "$1-*" -mmin +60 -delete
+        cp "$home/target/bin/$1" "$keep/$1.new"
+        mv "$keep/$1.new" "${program[$1]}"
+    done
+    unlock
+}
+
+# Runs a program that is ready.
+run() { # NAME [WORD..]
+    "${start[@]}" "${program[$1]}" "${@:2}" || { say "'$1' ended with status $?"; return 2; }
+}
+
+# Runs a program that is ready and passes its lines on as they come. Answers 1 where the last one is a refusal.
+run_lines() { # NAME [WORD..]
+    run "$@" | {
+        line='' last=''
+        while IFS= read -r line; do
+            printf '%s\n' "$line" || exit 2
+            last=$line
+        done
+        [ -z "$line" ] || { say "the last line was cut: $line"; exit 2; }
+        case $last in 'refused '*) exit 1 ;; esac
+    }
+}
+
+# Does what COMMAND does, with its output as ours, and answers its status; what it says on standard error is in `said`.
+hear() { # COMMAND..
+    local status=0 out
+    exec {out}>&1
+    said=$("$@" 2>&1 >&"$out") || status=$?
+    exec {out}>&-
+    return "$status"
+}
+
+# The same for what should say nothing. A Rattle program has no status: where one cannot read or write it says so on
+# standard error, and that ends in 2.
+heard() { # COMMAND..
+    local status=0
+    hear "$@" || status=$?
+    [ -z "$said" ] || fail "${said##*printf: }"
+    [ "$status" -le 1 ] || fail "it ended with status $status"
+    return "$status"
+}

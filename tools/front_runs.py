@@ -1,0 +1,440 @@
+#!/usr/bin/env python3
+"""front_runs: ./cabin where things go wrong. Every failure to read or write ends in 2 with a word on standard error, 1
+means that something was refused, no listing is cut and called whole, and two uses at once do not disturb each other.
+
+Where something has to be built, the front is copied to a room of its own with a stand-in for the kit, which 'builds' by
+copying a program that is proved already."""
+import os
+import pathlib
+import re
+import resource
+import shutil
+import subprocess
+import sys
+import tempfile
+import time
+
+sys.path.insert(0, str(pathlib.Path(__file__).parent))
+from make_sample import listing, sample
+
+ROOT = pathlib.Path(__file__).resolve().parent.parent
+SAMPLE = ROOT / "samples" / "session.bin"
+WHOLE = listing(sample())
+REFUSED = sample() + b"\x26\x00\x09\x00"
+NOBODY = 65534
+
+# The kit's stand-in. STUB holds what its runs leave and find: `runs` (a line a start and an end), `hook` (run in the
+# middle of a proof), `ci` (what `rt ci` does).
+KIT = """#!/bin/sh
+case $1 in
+doc) echo @DOC@ ;;
+version) echo stand-in ;;
+fmt) exit 0 ;;
+ci) rm -rf target; . "$STUB/ci" ;;
+check)
+    echo "start $2" >>"$STUB/runs"
+    cat >/dev/null
+    [ ! -f "$STUB/hook" ] || . "$STUB/hook"
+    mkdir -p target/bin && cp "$STUB/$2" "target/bin/$2" || exit 2
+    echo "rt: $2 proved (0 s)"
+    echo "end $2" >>"$STUB/runs"
+    ;;
+esac
+"""
+
+CASES = []
+
+
+def case(name):
+    return lambda function: CASES.append((name, function)) or function
+
+
+def front(*words, home=ROOT, given=b"", limit=None, nobody=False, closed=(), **more):
+    """Runs ./cabin; the status, what it wrote and what it said."""
+    def child():
+        if limit is not None:
+            resource.setrlimit(resource.RLIMIT_FSIZE, (limit, limit))
+        if nobody and os.getuid() == 0:
+            os.setgroups([])
+            os.setgid(NOBODY)
+            os.setuid(NOBODY)
+        for stream in closed:
+            os.close(stream)
+    more.setdefault("stdout", subprocess.PIPE)
+    if "stdin" not in more:
+        more["input"] = given
+    ran = subprocess.run([home / "cabin", *words], stderr=subprocess.PIPE, preexec_fn=child, timeout=60, **more)
+    return ran.returncode, ran.stdout, ran.stderr.decode()
+
+
+def hold(got, status, wrote=None, says=""):
+    assert got[0] == status, f"status {got[0]}, not {status}; it said {got[2]!r}"
+    assert wrote is None or got[1] == wrote, f"wrote {got[1]!r}, not {wrote!r}; it said {got[2]!r}"
+    assert re.search(says, got[2]) and (says or status == 0 or got[2]), f"said {got[2]!r}, without {says!r}"
+
+
+def program(name):
+    """The path of a program of this checkout."""
+    subprocess.run([ROOT / "cabin", "run", name], input=b"", capture_output=True, check=True)
+    return max((ROOT / ".cabin").glob(f"{name}-*"), key=os.path.getmtime)
+
+
+class Room:
+    """A copy of the front over two small crates, with a stand-in for the kit."""
+
+    def __enter__(self):
+        self.top = pathlib.Path(tempfile.mkdtemp())
+        self.home, self.stub = self.top / "home", self.top / "stub"
+        (self.home / "tools").mkdir(parents=True)
+        (self.home / "crates" / "listing" / "src").mkdir(parents=True)
+        (self.home / "crates" / "listing" / "src" / "main.rt").write_text("fn main() {}\n")
+        (self.home / "crates.txt").write_text("listing: io os libc\n")
+        shutil.copy(ROOT / "cabin", self.home)
+        for script in (ROOT / "tools").glob("*.sh"):
+            shutil.copy(script, self.home / "tools")
+        self.stub.mkdir()
+        doc = subprocess.run(["rt", "doc"], capture_output=True, text=True, check=True).stdout.strip()
+        (self.stub / "rt").write_text(KIT.replace("@DOC@", doc))
+        (self.stub / "rt").chmod(0o755)
+        shutil.copy(program("listing"), self.stub / "listing")
+        self.env = dict(os.environ, PATH=f"{self.stub}:{os.environ['PATH']}", STUB=str(self.stub), CABIN_BUILD="yes")
+        self.top.chmod(0o755)
+        return self
+
+    def __exit__(self, *_):
+        subprocess.run(["chmod", "-R", "u+w", self.top], check=True)
+        shutil.rmtree(self.top)
+
+    def front(self, *words, **more):
+        return front(*words, home=self.home, env=self.env, **more)
+
+    def start(self, *words):
+        return subprocess.Popen([self.home / "cabin", *words], env=self.env, stdin=subprocess.DEVNULL,
+                                stdout=subprocess.PIPE, stderr=subprocess.PIPE)
+
+    def runs(self):
+        path = self.stub / "runs"
+        return path.read_text().split("\n")[:-1] if path.exists() else []
+
+    def write(self, name, text):
+        path = self.home / name
+        path.parent.mkdir(exist_ok=True)
+        path.write_text(text)
+        return path
+
+
+# ---- statuses
+
+@case("a whole session is listed with 0, from a file and from standard input")
+def _():
+    hold(front("list", SAMPLE), 0, WHOLE)
+    hold(front("list", given=sample()), 0, WHOLE)
+
+
+@case("a refused record gives 1, and the lines ahead of it stand")
+def _():
+    hold(front("list", given=REFUSED), 1, listing(REFUSED), "refused")
+
+
+@case("what cannot be read gives 2 and lists nothing")
+def _():
+    with tempfile.TemporaryDirectory() as room:
+        hold(front("list", pathlib.Path(room) / "none"), 2, b"", "no file")
+        hold(front("list", room), 2, b"", "cannot be read")
+        hold(front("list", ""), 2, b"", "no file")
+        folder = os.open(room, os.O_RDONLY)
+        hold(front("list", stdin=folder), 2, b"", "standard input")
+        hold(front("desk", stdin=folder), 2, b"", "standard input")
+        os.close(folder)
+    with Room() as room:
+        secret = room.write("secret", "")
+        secret.chmod(0)
+        room.front("list", SAMPLE)
+        hold(room.front("list", secret, nobody=True), 2, b"", "cannot be read")
+
+
+@case("a machine without the kit: 2")
+def _():
+    hold(front("list", SAMPLE, env={"PATH": "/usr/bin:/bin"}), 2, b"", "kit")
+
+
+@case("a proof that fails: 2, not 1, and no listing")
+def _():
+    with Room() as room:
+        (room.stub / "hook").write_text("echo 'rt: FAILED: listing'; exit 1\n")
+        hold(room.front("list", SAMPLE), 2, b"", "could not be built")
+
+
+@case("a program that dies: 2")
+def _():
+    with Room() as room:
+        (room.stub / "listing").write_bytes(b"no program")
+        hold(room.front("list", SAMPLE), 2, b"", "status")
+
+
+@case("a word that no command takes: 2, for every command of the table")
+def _():
+    status, text, _said = front("help")
+    usages = [line[2:].split("  ")[0] for line in text.decode().split("\n") if line.startswith("  ")]
+    assert status == 0 and len(usages) >= 7, text
+    for usage in usages:
+        name, *words = usage.split()
+        if ".." not in usage:
+            hold(front(name, *("x" * (len(words) + 1))), 2, b"", f"usage: ./cabin {name}")
+        for _missing in re.sub(r"\[[^]]*\]", "", usage).split()[1:]:
+            hold(front(name), 2, b"", f"usage: ./cabin {name}")
+    hold(front("lists"), 2, b"", "no command 'lists'")
+
+
+# ---- output that does not get through
+
+@case("a full device: 2 for list, desk and help")
+def _():
+    with open("/dev/full", "wb") as full:
+        hold(front("list", SAMPLE, stdout=full), 2, None, "No space left")
+        hold(front("list", stdout=full, given=REFUSED), 2, None, "No space left")
+        hold(front("desk", stdout=full, given=b"root 2\n"), 2, None, "No space left")
+        hold(front("help", stdout=full), 2, None, "No space left")
+
+
+@case("closed output: 2 for list, desk and help")
+def _():
+    for words in (["list", SAMPLE], ["desk"], ["help"]):
+        hold(front(*words, given=b"root 2\n", closed=[1]), 2, b"", "standard output is closed")
+
+
+@case("closed standard error: the statuses stand")
+def _():
+    hold(front("list", SAMPLE, closed=[2]), 0, WHOLE)
+    assert front("list", given=REFUSED, closed=[2])[:2] == (1, listing(REFUSED))
+    assert front("list", SAMPLE, closed=[1, 2])[0] == 2
+
+
+@case("closed input: 2 where it is read, and no matter where it is not")
+def _():
+    hold(front("list", closed=[0]), 2, b"", "standard input is closed")
+    hold(front("desk", closed=[0]), 2, b"", "standard input is closed")
+    hold(front("list", SAMPLE, closed=[0]), 0, WHOLE)
+
+
+@case("a reader that has gone: 2 for list and desk")
+def _():
+    for words in (["list", SAMPLE], ["desk"]):
+        gone, end = os.pipe()
+        os.close(gone)
+        hold(front(*words, stdout=end, given=b"root 2\n"), 2, None, "Broken pipe")
+        os.close(end)
+
+
+@case("a disk that is full in the middle of a line: 2")
+def _():
+    with tempfile.TemporaryFile() as cut:
+        hold(front("list", SAMPLE, stdout=cut, limit=50), 2, None, "File too large")
+        assert os.fstat(cut.fileno()).st_size < len(WHOLE)
+
+
+@case("output is added to a file, which stays")
+def _():
+    with tempfile.NamedTemporaryFile() as file:
+        file.write(b"ahead\n")
+        file.flush()
+        with open(file.name, "ab") as more:
+            hold(front("list", SAMPLE, stdout=more), 0)
+        assert pathlib.Path(file.name).read_bytes() == b"ahead\n" + WHOLE
+
+
+# ---- folders that cannot be used
+
+@case("a temporary folder that is full, or is not there: the listing is whole")
+def _():
+    hold(front("list", SAMPLE, limit=0), 0, WHOLE)
+    hold(front("list", SAMPLE, env=dict(os.environ, TMPDIR="/nowhere")), 0, WHOLE)
+
+
+@case("a read-only checkout: what is built runs, what is not gives 2")
+def _():
+    with Room() as room:
+        subprocess.run(["chmod", "-R", "a-w", room.home], check=True)
+        hold(room.front("list", SAMPLE, nobody=True), 2, b"", "cannot be written")
+    with Room() as room:
+        hold(room.front("list", SAMPLE), 0, WHOLE)
+        subprocess.run(["chmod", "-R", "a-w", room.home], check=True)
+        hold(room.front("list", SAMPLE, nobody=True), 0, WHOLE)
+
+
+@case("a disk that is full while a program is built: 2, and whole later")
+def _():
+    with Room() as room:
+        hold(room.front("list", SAMPLE, limit=0), 2, b"")
+        hold(room.front("list", SAMPLE), 0, WHOLE)
+
+
+# ---- ways to call it
+
+@case("a link to ./cabin, and a link to the link, from another folder")
+def _():
+    with tempfile.TemporaryDirectory() as room:
+        first, second = pathlib.Path(room) / "first", pathlib.Path(room) / "a second"
+        first.symlink_to(ROOT / "cabin")
+        second.symlink_to("first")
+        for link in (first, second):
+            ran = subprocess.run([link, "list", SAMPLE], capture_output=True, cwd=room)
+            assert (ran.returncode, ran.stdout) == (0, WHOLE), (link.name, ran)
+
+
+@case("a pipe, <(..) and a named pipe can be listed")
+def _():
+    for words in ('<(cat "$1")', '/dev/fd/3 3<"$1"', '/dev/stdin <"$1"'):
+        ran = subprocess.run(["bash", "-c", f'"$0" list {words}', ROOT / "cabin", SAMPLE], capture_output=True)
+        assert (ran.returncode, ran.stdout) == (0, WHOLE), (words, ran)
+    with tempfile.TemporaryDirectory() as room:
+        pipe = pathlib.Path(room) / "pipe"
+        os.mkfifo(pipe)
+        writer = subprocess.Popen(["cp", SAMPLE, pipe])
+        hold(front("list", pipe), 0, WHOLE)
+        writer.wait()
+
+
+# ---- building
+
+@case("a first use from standard input: what builds does not read the session")
+def _():
+    with Room() as room:
+        hold(room.front("list", given=sample()), 0, WHOLE)
+
+
+@case("two first uses at once: one builds, the other waits, both list")
+def _():
+    with Room() as room:
+        (room.stub / "hook").write_text("sleep 2\n")
+        first = room.start("list", SAMPLE)
+        while not room.runs():
+            time.sleep(0.05)
+        second = room.start("list", SAMPLE)
+        for one in (first, second):
+            wrote, said = one.communicate(timeout=60)
+            assert (one.returncode, wrote) == (0, WHOLE), said
+        assert b"waiting" in said, said
+        assert room.runs() == ["start listing", "end listing"], room.runs()
+
+
+@case("a file that is changed while it is proved is proved again")
+def _():
+    with Room() as room:
+        main = room.home / "crates" / "listing" / "src" / "main.rt"
+        (room.stub / "hook").write_text(f'[ -f "$STUB/once" ] || {{ : >"$STUB/once"; echo "// more" >>"{main}"; }}\n')
+        hold(room.front("list", SAMPLE), 0, WHOLE, "changed meanwhile")
+        assert room.runs() == ["start listing", "end listing"] * 2, room.runs()
+        hold(room.front("list", SAMPLE), 0, WHOLE)
+        assert len(room.runs()) == 4, "it was proved once more, and nothing had changed"
+
+
+@case("a file that is changed, added or removed later is proved again, and nothing else")
+def _():
+    with Room() as room:
+        main = room.home / "crates" / "listing" / "src" / "main.rt"
+        old = main.stat().st_mtime
+
+        def proofs():
+            hold(room.front("list", SAMPLE), 0, WHOLE)
+            return len(room.runs()) // 2
+        assert proofs() == 1
+        main.write_text("fn main() { }\n")
+        os.utime(main, (old, old))
+        assert proofs() == 2, "a change that keeps the file's time"
+        more = room.write("crates/listing/src/more.rt", "")
+        assert proofs() == 3, "a file more"
+        more.unlink()
+        room.write("README.md", "new")
+        assert proofs() == 3, "as it was two proofs ago, and a page"
+
+
+@case("./cabin test does not pull a program away from under a use")
+def _():
+    with Room() as room:
+        hold(room.front("list", SAMPLE), 0, WHOLE)
+        (room.stub / "ci").write_text(': >"$STUB/in-ci"; sleep 4; echo "1 passed, 0 failed"\n')
+        gate = room.start("test")
+        while not (room.stub / "in-ci").exists():
+            assert gate.poll() is None, gate.communicate()
+            time.sleep(0.05)
+        hold(room.front("list", SAMPLE), 0, WHOLE)
+        assert gate.poll() is None, "the listing waited for the gate"
+        gate.communicate(timeout=60)
+
+
+@case("nothing is installed without a word, and what cannot be installed gives 2")
+def _():
+    with Room() as room:
+        use = ["bash", "-c", 'home=$1; . "$1/tools/front.sh"; need no-such-command some-package', "-", room.home]
+        installer = room.stub / "apt-get"
+        installer.write_text('#!/bin/sh\necho "$@" >>"$STUB/installed"\n')
+        installer.chmod(0o755)
+        ran = subprocess.run(use, env=room.env, capture_output=True, text=True)
+        assert ran.returncode == 0 and "installing some-package" in ran.stderr, ran
+        assert (room.stub / "installed").read_text() == "update\ninstall -y some-package\n"
+        installer.write_text("#!/bin/sh\nexit 100\n")
+        ran = subprocess.run(use, env=room.env, capture_output=True, text=True)
+        assert ran.returncode == 2 and "by hand" in ran.stderr, ran
+    for script in [ROOT / "cabin", *(ROOT / "tools").glob("*.sh")]:
+        assert len(re.findall(r"apt-get (?:\S+ )*install", script.read_text())) == (script.name == "front.sh"), script
+
+
+@case("under CABIN_BUILD=no what is not built gives 2, at once")
+def _():
+    with Room() as room:
+        room.env["CABIN_BUILD"] = "no"
+        hold(room.front("list", SAMPLE), 2, b"", "is not built")
+        assert not room.runs(), "it was built all the same"
+
+
+# ---- the gate
+
+def gate(room, ci, fails=()):
+    """The lines of ./cabin test over parts that pass, but for those that fail."""
+    (room.stub / "ci").write_text(ci)
+    for name in re.findall(r"python3 tools/(\w+\.py)", (ROOT / "tools" / "test.sh").read_text()):
+        room.write(f"tools/{name}", f"import sys; print('{name} was made'); sys.exit({int(name in fails)})\n")
+    room.write("tools/compare.sh", f'echo "compare $1 was made, build $CABIN_BUILD"; case " {" ".join(fails)} " in *" $1 "*) exit 1 ;; esac\n')
+    status, wrote, _said = room.front("test")
+    return status, wrote.decode().split("\n")[:-1]
+
+
+def parts(lines):
+    return sum(" was made" in line for line in lines)
+
+
+@case("the gate's last line is its count, also where a part fails, and every part is made")
+def _():
+    with Room() as room:
+        status, lines = gate(room, 'echo "rt: ok"; echo "40 passed, 0 failed"\n')
+        made = parts(lines)
+        assert made >= 8 and status == 0 and lines[-1] == f"{41 + made} passed, 0 failed", lines
+        assert sum("passed" in line for line in lines) == 1, lines
+        assert room.runs() == ["start listing", "end listing"], "the programs are made ready, once"
+        assert "compare sessions was made, build no" in lines, lines
+        for ci, fails, count in (
+            ('echo "38 passed, 2 failed"; exit 1\n', (), f"{39 + made} passed, 2 failed"),
+            ('echo "the toolchain died"; exit 2\n', (), f"{1 + made} passed, 1 failed"),
+            ('echo "40 passed, 0 failed"\n', ("requests",), f"{40 + made} passed, 1 failed"),
+            ('echo "40 passed, 0 failed"\n', ("pages.py", "sessions"), f"{39 + made} passed, 2 failed"),
+            ('echo "39 passed, 1 failed"; exit 1\n', ("promises.py", "stored"), f"{38 + made} passed, 3 failed"),
+        ):
+            status, lines = gate(room, ci, fails)
+            assert (status, lines[-1], parts(lines)) == (2, count, made), (status, count, lines)
+            assert any(line.startswith("FAILED: ") for line in lines), lines
+
+
+def main():
+    faults = 0
+    for name, function in CASES:
+        try:
+            function()
+        except (AssertionError, subprocess.TimeoutExpired) as fault:
+            faults += 1
+            print(f"{name}: {fault}")
+    print(f"{len(CASES)} cases of the front, {faults} wrong")
+    return 1 if faults else 0
+
+
+sys.exit(main())

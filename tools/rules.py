@@ -1,0 +1,59 @@
+#!/usr/bin/env python3
+"""What the pages say of crates/ is so: every name that a row of docs/RULES.md cites is defined in the file that it names,
+and the picture of docs/ARCHITECTURE.md has each crate once, above all that it stands on. Says which files of specs/ no
+row cites; that alone is no fault."""
+import pathlib
+import re
+import sys
+
+ROOT = pathlib.Path(__file__).resolve().parent.parent
+PAGE = ROOT / "docs" / "RULES.md"
+CRATES_WIDTH = 44  # in the picture: the crates, then what they are for
+CITED = re.compile(r"((?:`[^`]+`(?:, )?)+) in `(\w+/(?:src|specs|proofs)/[\w.]+)`")
+
+
+def defines(text, name):
+    """Whether a file defines a name: a definition or a law with its type, a record, or a type of the code."""
+    word = re.escape(name)
+    return re.search(rf"^\s*(?:(?:abbrev|unfoldable) )?(?:pub )?(?:record {word} |(?:enum|struct) {word} |{word} :)", text, re.M)
+
+
+def faults_of_picture():
+    """Where the picture differs from crates.txt."""
+    picture = re.search(r"^```\n(.*?)^```$", (ROOT / "docs" / "ARCHITECTURE.md").read_text(), re.M | re.S)[1]
+    lines = [line[:CRATES_WIDTH].split() for line in picture.split("\n")]
+    known = dict(re.findall(r"^(\w+):(.*)$", (ROOT / "crates.txt").read_text(), re.M))
+    height = {}
+    for number, line in enumerate(lines):
+        for crate in line:
+            if crate in known and crate in height:
+                yield f"docs/ARCHITECTURE.md: the picture has {crate} twice"
+            height[crate] = -number
+    for crate, below in known.items():
+        if crate not in height:
+            yield f"docs/ARCHITECTURE.md: the picture does not have {crate}"
+        for other in below.split():
+            if other in known and height.get(other, -99) >= height.get(crate, 99):
+                yield f"docs/ARCHITECTURE.md: {crate} stands on {other}, and the picture does not have it above that"
+
+
+def main():
+    faults, names, files = list(faults_of_picture()), 0, set()
+    for number, line in enumerate(PAGE.read_text().split("\n"), 1):
+        for cited, file in CITED.findall(line):
+            path = ROOT / "crates" / (file if file.endswith(".rt") else f"{file}.antt")
+            files.add(file)
+            text = path.read_text() if path.exists() else ""
+            for name in re.findall(r"`([^`]+)`", cited):
+                names += 1
+                if not defines(text, name):
+                    faults.append(f"docs/RULES.md:{number}: {file} does not define {name}")
+        if re.match(r"\| .* \|$", line) and "`" in line.rsplit(" | ", 1)[-1] and not CITED.search(line):
+            faults.append(f"docs/RULES.md:{number}: the row cites a name without its file")
+    specs = {f"{path.parts[-3]}/specs/{path.stem}" for path in ROOT.glob("crates/*/specs/*.antt") if path.stem != "Lib"}
+    print("not cited: " + ", ".join(sorted(specs - files)))
+    print("\n".join(faults + [f"{names} names of docs/RULES.md in {len(files)} files, {len(faults)} faults"]))
+    return 1 if faults else 0
+
+
+sys.exit(main())
