@@ -15,6 +15,7 @@ use Rattle.real.proofs.Bounds.{Within, AtLeast, round-below, div-within}
 use Rattle.wheel.specs.Sines.{entryOf}
 use Rattle.wheel.specs.Wheel.{signedSine, signedCosine, onBy, overOf}
 use Rattle.wheel.proofs.Entries.{at-most}
+use Rattle.wheel.proofs.Turns.{negative}
 use Rattle.wheel.proofs.Quadrants.{first, second, third, fourth, on-below, Quadrant, q1, q2, q3, q4, quadrant}
 
 turned : (n : ℕ) → n ≤ 1073741824 → natAbs (negℤ (pos n)) ≤ 1073741824
@@ -95,10 +96,6 @@ over-plus n h = divided (round binary64 false n 1) false n h (round-whole binary
 over-minus : (n : ℕ) → suc n ≤ 1073741824 → Exact true (suc n) (negsuc n)
 unfolding ofInt
 over-minus n h = divided (round binary64 true (suc n) 1) true (suc n) h (round-whole binary64 true (suc n) (omega arith))
-
-abbrev pub negative : ℤ → Bool
-negative (pos n) = false
-negative (negsuc n) = true
 
 over-exact : (z : ℤ) → natAbs z ≤ 1073741824 → Exact (negative z) (natAbs z) z
 over-exact (pos n) h = over-plus n h

@@ -1,15 +1,17 @@
--- Half a turn on the sine changes its sign, the cosine is the sine a quarter turn on, and their squares sum to nearly 2^60: over all e in 0..3,599.
+-- The sine is negative in the second half of the turn alone, half a turn on it changes its sign, the cosine is the sine a quarter turn on, and their
+-- squares sum to nearly 2^60: over all e in 0..3,599.
 -- Assumes nothing.
 use Prim.Native.Nat.{ℕ, zero, suc, _+_, _-_, _≤_, _<_}
 use mathlib.Core.Path.{_≡_, refl, sym, ap, _∙_, subst}
 use mathlib.Core.Bool.{Bool, true, false}
+use native.Mathlib.Nat.{lt-irrefl}
 use native.Mathlib.Omega.{arith}
-use lib.Dec.{eqb}
-use lib.IntN.{ℤ, pos, negℤ, natAbs, negℤ-negℤ}
-use borrow.Author.Tests.{eqb-true, eqb-false}
+use lib.Dec.{eqb, ltb}
+use lib.IntN.{ℤ, pos, negsuc, negℤ, natAbs, negℤ-negℤ}
+use borrow.Author.Tests.{eqb-true, eqb-false, lt-ltb, le-ltb}
 use Rattle.wheel.specs.Sines.{nestOf, sineOf, entryOf}
 use Rattle.wheel.specs.Wheel.{signedSine, signedCosine, onBy}
-use Rattle.wheel.proofs.Entries.{Near, squares, sum-of-squares}
+use Rattle.wheel.proofs.Entries.{strict-growth, Near, squares, sum-of-squares}
 use Rattle.wheel.proofs.Quadrants.{first, second, third, fourth, on-short, on-round, Quadrant, q1, q2, q3, q4, quadrant}
 
 entry-0 : entryOf 0 ≡ 0
@@ -25,6 +27,32 @@ minus k = negℤ (pos (entryOf k))
 
 minus-0 : minus 0 ≡ plus 0
 minus-0 = rw entry-0
+
+-- ---- the sign
+
+abbrev pub negative : ℤ → Bool
+negative (pos n) = false
+negative (negsuc n) = true
+
+minus-negative : (k : ℕ) → 0 < k → k ≤ 900 → negative (minus k) ≡ true
+minus-negative zero h l = absurd (lt-irrefl 0 h)
+minus-negative (suc k) h l = go (entryOf (suc k)) (some (entryOf k) (entryOf (suc k)) (strict-growth k (omega arith)))
+  where
+    some : (a b : ℕ) → a < b → 0 < b
+    some a b h = omega arith
+
+    go : (n : ℕ) → 0 < n → negative (negℤ (pos n)) ≡ true
+    go zero p = absurd (lt-irrefl 0 p)
+    go (suc n) p = refl
+
+pub signs : (e : ℕ) → e < 3600 → negative (signedSine e) ≡ ltb 1800 e
+signs e l = go (quadrant e)
+  where
+    go : Quadrant e → negative (signedSine e) ≡ ltb 1800 e
+    go (q1 h) = ap negative (first e h) ∙ sym (le-ltb 1800 e (omega arith))
+    go (q2 g h) = ap negative (second e g h) ∙ sym (le-ltb 1800 e h)
+    go (q3 g h) = ap negative (third e g h) ∙ minus-negative (e - 1800) (omega arith) (omega arith) ∙ sym (lt-ltb 1800 e g)
+    go (q4 g) = ap negative (fourth e g) ∙ minus-negative (3600 - e) (omega arith) (omega arith) ∙ sym (lt-ltb 1800 e (omega arith))
 
 -- ---- half a turn on
 
