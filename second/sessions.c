@@ -7,35 +7,45 @@
 #include <stdio.h>
 #include <string.h>
 
-static int64_t some_time(void)
+typedef struct { uint8_t bytes[SESSION_MAX + 4096]; size_t size; int offset; } session;
+
+/* Whole records. */
+
+enum { DAY = 8640000, MINUTE = 6000 };
+
+static const int64_t time_max = INT64_C(1) << 53;
+
+static int64_t some_time(int offset)
 {
-    static const int64_t times[] = { 0, 64, -1, 8639999, 8640000, -8640000, -8640001, INT64_MAX, INT64_MIN };
-    switch (below(3)) {
+    static const int64_t times[] = {
+        0, 64, -1, DAY - 1, DAY, -DAY, -DAY - 1, INT64_C(1) << 53, -(INT64_C(1) << 53),
+    };
+    switch (below(4)) {
     case 0:
         return times[below(sizeof times / sizeof *times)];
     case 1:
-        return (int64_t)roll();
+        return (int64_t)(roll() >> 10) - time_max;
+    case 2: /* about a local midnight */
+        return ((int64_t)below(5) - 2) * DAY - MINUTE * offset + (int64_t)below(3) - 1;
     default:
         return (int64_t)below(17280000000) - 8640000000;
     }
 }
 
-static record some_record(int kind)
+static void add(session *s, int kind)
 {
-    record r = { .kind = kind, .vehicle = (int)below(2) };
-    r.time = some_time();
+    record r = { .kind = kind, .offset = s->offset, .vehicle = (int)below(2) };
+    r.time = some_time(s->offset);
     r.byte = kind == STATE ? (int)below(2) : 0;
     for (int k = 0; k < numbers_of(kind); k++)
         r.numbers[k] = uniform(-0x1p23, 0x1p23);
-    return r;
+    s->size += write_record(s->bytes + s->size, &r);
 }
 
-typedef struct { uint8_t bytes[SESSION_MAX + 4096]; size_t size; } session;
-
-static void add(session *s, int kind)
+static void add_offset(session *s)
 {
-    record r = some_record(kind);
-    s->size += write_record(s->bytes + s->size, &r);
+    s->offset = one_in(4) ? (int)below(3) * 840 - 840 : (int)below(1681) - 840;
+    add(s, OFFSET);
 }
 
 static void add_some(session *s, uint64_t records)
@@ -44,37 +54,47 @@ static void add_some(session *s, uint64_t records)
         add(s, 1 + (int)below(3));
 }
 
-/* One of each kind, cut at each place in turn. */
+/* One of each kind, with an offset or without, cut at each place in turn. */
 static void make_cut(session *s, uint64_t turn)
 {
-    int first = (int)(turn / 131 % 3);
+    int first = (int)(turn / 139 % 3);
+    if (turn / 139 % 2 == 0)
+        add_offset(s);
     for (int k = 0; k < 3; k++)
         add(s, 1 + (first + k) % 3);
-    s->size = turn % 131;
+    if (s->size > turn % 139)
+        s->size = turn % 139;
+}
+
+/* Damage. */
+
+static size_t place_of_some(const session *s)
+{
+    size_t places[64], count = 0;
+    for (size_t at = 0; at < s->size && count < 64; at += s->bytes[at])
+        places[count++] = at;
+    return places[below(count)];
 }
 
 /* One byte of a record's header changed, by a little or by chance, or the top of a number. */
-static void damage(session *s, uint64_t records)
+static void damage(session *s)
 {
-    size_t place = 0;
-    for (uint64_t k = below(records); k > 0; k--)
-        place += s->bytes[place];
-    size_t field = below(8);
-    if (field == 7) {
+    size_t place = place_of_some(s), length = s->bytes[place], field = below(8);
+    if (field == 7 && length > 14) {
         static const uint8_t tops[] = { 0x7F, 0xFF };
-        size_t number = place + 14 + 8 * below((s->bytes[place] - 14) / 8);
+        size_t number = place + 14 + 8 * below((length - 14) / 8);
         memset(s->bytes + number, 0, one_in(2) ? 6 : 0); /* infinite, or not a number */
         s->bytes[number + 7] = tops[below(2)];
         s->bytes[number + 6] = (uint8_t)(0xEF + below(3));
         return;
     }
-    uint8_t *byte = s->bytes + place + (field < 6 ? field : below(14));
+    uint8_t *byte = s->bytes + place + (field < 6 ? field : below(length < 14 ? length : 14));
     *byte = (uint8_t)(below(2) ? roll() : *byte + below(5) - 2);
 }
 
 /* Two different faults in one record: only the order of the reader's tests says which of them is told. */
 
-enum fault { SHORT_LENGTH, WRONG_LENGTH, KIND, VEHICLE, BYTE, NUMBER, CUT, FAULTS };
+enum fault { SHORT_LENGTH, WRONG_LENGTH, KIND, VEHICLE, BYTE, TIME, NUMBER, CUT, FAULTS };
 
 static void inflict(session *s, size_t place, enum fault fault)
 {
@@ -95,29 +115,61 @@ static void inflict(session *s, size_t place, enum fault fault)
     case BYTE:
         at[5] = 2;
         break;
+    case TIME:
+        at[13] = 0x40;
+        break;
     case NUMBER:
         at[20] = 0xF0;
         at[21] = 0x7F;
         break;
-    default: /* behind the header, behind the vehicle, anywhere */
+    default: /* behind length and kind, or anywhere behind them */
         s->size = place + (one_in(3) ? 4 : 4 + below(26));
     }
 }
 
-static void damage_twice(session *s, uint64_t records)
+static void damage_twice(session *s)
 {
-    size_t place = 0;
-    for (uint64_t k = below(records); k > 0; k--)
-        place += s->bytes[place];
+    size_t place = place_of_some(s);
     enum fault first = (enum fault)below(FAULTS);
     enum fault second = (enum fault)((first + 1 + below(FAULTS - 1)) % FAULTS);
     inflict(s, place, first);
     inflict(s, place, second);
 }
 
+/* T-03's edges: the offset of the first record at its limits and beyond, a second or late offset record with
+ * what else may be wrong with it, a time at its limit and beyond. */
+static void at_an_edge(session *s)
+{
+    static const int offsets[] = { 840, -840, 841, -841, INT16_MAX, INT16_MIN, 0x0100 };
+    record r = { .kind = OFFSET, .offset = offsets[below(7)] };
+    size_t place = place_of_some(s);
+    switch (below(4)) {
+    case 0:
+        s->size = write_record(s->bytes, &r);
+        add_some(s, 2);
+        break;
+    case 1:
+        r.offset = one_in(4) ? r.offset : 60;
+        s->size = place + write_record(s->bytes + place, &r);
+        s->bytes[place + 6 + below(2)] = one_in(4);
+        s->size -= one_in(4) ? 1 + below(4) : 0;
+        break;
+    case 2:
+        s->bytes[place] = one_in(2) ? 8 : 14; /* kind 4 with a length that is not its own, or all but its length */
+        s->bytes[place + 2] = OFFSET;
+        break;
+    default:
+        r = (record){ .kind = MARK, .time = time_max + (int64_t)below(3) - 1 };
+        r.time = one_in(2) ? r.time : -r.time;
+        s->size += write_record(s->bytes + s->size, &r);
+    }
+}
+
 /* 65,536 bytes of whole records and a few bytes more or less. */
 static void make_long(session *s)
 {
+    if (one_in(2))
+        add_offset(s);
     add(s, BURN);
     add(s, BURN);
     while (s->size + length_of(MARK) <= SESSION_MAX)
@@ -135,28 +187,25 @@ static void make_long(session *s)
     }
 }
 
-static void make_session(session *s, uint64_t turn)
+static void make_small(session *s, uint64_t turn)
 {
-    s->size = 0;
-    if (turn % 100 == 99) {
-        make_long(s);
+    if (turn % 5 == 0) {
+        make_cut(s, turn / 5);
         return;
     }
-    uint64_t records = 1 + below(8);
-    switch (turn % 4) {
-    case 0:
-        make_cut(s, turn / 4);
-        break;
-    case 1:
-        add_some(s, below(20));
-        break;
+    if (one_in(2))
+        add_offset(s);
+    add_some(s, turn % 5 == 1 ? below(20) : 1 + below(8));
+    switch (turn % 5) {
     case 2:
-        add_some(s, records);
-        damage(s, records);
+        damage(s);
         break;
-    default:
-        add_some(s, records);
-        damage_twice(s, records);
+    case 3:
+        damage_twice(s);
+        break;
+    case 4:
+        at_an_edge(s);
+        break;
     }
 }
 
@@ -166,7 +215,12 @@ int make_sessions(uint64_t seed, uint64_t count, const char *folder)
     throw_from(seed);
     for (uint64_t turn = 0; turn < count; turn++) {
         char name[4096];
-        make_session(&s, turn);
+        s.size = 0;
+        s.offset = 0;
+        if (turn % 100 == 99)
+            make_long(&s);
+        else
+            make_small(&s, turn);
         snprintf(name, sizeof name, "%s/%06llu", folder, (unsigned long long)turn);
         FILE *file = fopen(name, "wb");
         if (!file || fwrite(s.bytes, 1, s.size, file) != s.size || fclose(file) != 0) {

@@ -7,7 +7,7 @@ import sys
 import tempfile
 
 sys.path.insert(0, str(pathlib.Path(__file__).parent))
-from make_sample import BURN, MARK, listing, record, sample
+from make_sample import BURN, MARK, listing, night, offset, record, sample
 
 CABIN = pathlib.Path(__file__).resolve().parent.parent / 'cabin'
 
@@ -23,6 +23,19 @@ def sessions():
     many = record(MARK, 1, 0, -1, 1.0, 2.0) * 2184
     infinite = burn[:28] + b'\xf0\x7f' + burn[30:]
     yield 'the sample', sample()
+    yield 'the night shift', night()
+    for minutes in (-32768, -841, -840, -1, 0, 1, 840, 841, 32767):
+        yield f'an offset of {minutes} minutes', offset(minutes) + burn
+    for size in (2**53, 2**53 + 1, 2**63 - 1):
+        for sign in (-1, 1):
+            yield f'a time of {sign * size}', offset(60) + burn[:6] + (sign * size).to_bytes(8, 'little', signed=True) + burn[14:]
+    yield 'an offset that is not first', burn + offset(60)
+    yield 'two offsets', offset(60) + offset(60) + burn
+    yield 'an offset whose last bytes are not zero', offset(60, 256) + burn
+    yield 'an offset of another length', b'\x09' + offset(60)[1:] + burn
+    for k in range(8):
+        yield f'an offset cut at byte {k}', offset(60)[:k]
+        yield f'a late offset cut at byte {k}', burn + offset(60)[:k]
     yield 'a burn record', burn
     yield 'a number that is infinite', infinite
     yield 'a number that is none', infinite[:22] + b'\x01' + infinite[23:]

@@ -1,5 +1,5 @@
 #!/usr/bin/env python3
-"""make_sample: writes the sample sessions, one whole and one damaged, and what the listing program is run on and must write.
+"""make_sample: writes the sample sessions, and what the listing program is run on and must write.
 
   tools/make_sample.py           write the files
   tools/make_sample.py --check   say which differ from what would be written, and exit 1 if one does
@@ -12,10 +12,12 @@ import pathlib
 import struct
 import sys
 
-STATE, BURN, MARK = 1, 2, 3
-LENGTH = {STATE: 62, BURN: 38, MARK: 30}
+STATE, BURN, MARK, OFFSET = 1, 2, 3, 4
+LENGTH = {STATE: 62, BURN: 38, MARK: 30, OFFSET: 8}
 NAME = {STATE: 'state', BURN: 'burn', MARK: 'mark'}
 DAY = 8_640_000
+HOUR = 360_000
+MINUTE = 6_000
 
 
 def record(kind, vehicle, byte, time, *numbers):
@@ -24,8 +26,13 @@ def record(kind, vehicle, byte, time, *numbers):
     return packed
 
 
-def decode(s):
-    """The line's words and the length of the record at the front of s, or the number of the refusal."""
+def offset(minutes, zero=0):
+    return struct.pack('<HHhH', LENGTH[OFFSET], OFFSET, minutes, zero)
+
+
+def decode(s, first):
+    """What the record at the front of s is, the first of its session or not: its minutes, or its time, vehicle and kind;
+    and its length. Or the number of the refusal."""
     if len(s) < 4:
         return 11
     length, kind = struct.unpack_from('<HH', s)
@@ -37,25 +44,34 @@ def decode(s):
         return 12
     if len(s) < length:
         return 11
+    if kind == OFFSET:
+        minutes, zero = struct.unpack_from('<hH', s, 4)
+        return (minutes, length) if first and zero == 0 and abs(minutes) <= 840 else 14
     vehicle, byte, time = struct.unpack_from('<BBq', s, 4)
     numbers = struct.unpack_from('<%dd' % ((length - 14) // 8), s, 14)
-    if vehicle > 1 or byte > (1 if kind == STATE else 0) or not all(map(math.isfinite, numbers)):
+    if vehicle > 1 or byte > (1 if kind == STATE else 0) or abs(time) > 2**53 or not all(map(math.isfinite, numbers)):
         return 14
-    return '%d %d %d %s' % (time // DAY, time % DAY, vehicle, NAME[kind]), length
+    return (time, vehicle, kind), length
 
 
 def listing(s):
-    lines, at = ['day cs vehicle kind'], 0
+    lines, at, minutes = ['day cs vehicle kind'], 0, 0
     if len(s) > 65536:
         lines.append('refused 12 at 0')
         at = len(s)
     while at < len(s):
-        got = decode(s[at:])
+        got = decode(s[at:], at == 0)
         if isinstance(got, int):
             lines.append('refused %d at %d' % (got, at))
             break
-        lines.append(got[0])
-        at += got[1]
+        what, length = got
+        if isinstance(what, int):
+            minutes = what
+        else:
+            time, vehicle, kind = what
+            local = time + MINUTE * minutes
+            lines.append('%d %d %d %s' % (local // DAY, local % DAY, vehicle, NAME[kind]))
+        at += length
     return ''.join(line + '\n' for line in lines).encode()
 
 
@@ -85,14 +101,32 @@ def damaged():
     ])
 
 
+def night():
+    """A night shift two hours ahead of UTC, on day 4 from ten minutes to midnight on."""
+    def at(hours, minutes, cs=0):
+        return 4 * DAY + hours * HOUR + minutes * MINUTE + cs - 120 * MINUTE
+    return b''.join([
+        offset(120),
+        record(STATE, 0, 1, at(23, 50), 1.85e6, 0.0, 0.0, 0.0, 16.28, 0.0),
+        record(STATE, 1, 1, at(23, 50), 1.83e6, -4.0e4, 0.0, 0.35, 16.37, 0.0),
+        record(MARK, 1, 0, at(23, 55), 43_110.0, -0.31),
+        record(BURN, 1, 0, at(23, 59, MINUTE - 1), 0.0, 0.125, 0.0),
+        record(MARK, 1, 0, at(24, 0), 41_020.5, -0.33),
+        record(BURN, 0, 0, at(24, 10), 0.0, -0.0625, 0.0),
+        record(MARK, 0, 0, at(26, 0), 9_870.0, -0.12),
+        record(STATE, 1, 1, at(26, 5), -1.7e6, 6.1e5, 0.0, -5.4, -15.4, 0.0),
+    ])
+
+
 def files():
     """The files that this script writes, with their contents."""
     whole = sample()
-    ends = record(BURN, 0, 0, -2**63, 0.0, 0.0, 0.0) + record(MARK, 1, 0, 2**63 - 1, 0.0, -0.0)
-    refused = whole + ends + struct.pack('<HH', 38, 4)
+    ends = record(BURN, 0, 0, -2**53, 0.0, 0.0, 0.0) + record(MARK, 1, 0, 2**53, 0.0, -0.0)
+    refused = offset(-840) + whole + ends + struct.pack('<HH', 38, 5)
     return {
         'samples/session.bin': whole,
         'samples/damaged.bin': damaged(),
+        'samples/night.bin': night(),
         'crates/listing/data/session': refused,
         'crates/listing/stdout': listing(refused),
     }

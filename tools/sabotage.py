@@ -44,17 +44,29 @@ REQUESTS = [
 
 
 SESSIONS = [
-    ("days cut towards zero", "session.c", "int64_t day = r->time / DAY - (r->time % DAY < 0);", "int64_t day = r->time / DAY;"),
+    ("days cut towards zero", "listing.c", "int64_t day = local / DAY - (local % DAY < 0);", "int64_t day = local / DAY;"),
     ("a session of 65,537 bytes let in", "session.c", "if (size > SESSION_MAX)", "if (size > SESSION_MAX + 1)"),
-    ("the end not told from a cut", "session.c", "return (reading){ .end = true, .place = place };", "return refused(11, place);"),
+    ("the end not told from a cut", "session.c", "return (reading){ .end = true, .place = from };", "return refused(11, from);"),
     ("under 5 bytes left for under 4", "session.c", "if (left < 4)", "if (left < 5)"),
     ("a length under 4 not tested first", "session.c", "if (length < 4)", "if (0)"),
-    ("the length tested before the kind", "session.c", "    if (kind < STATE", "    if (length != 62 && length != 38 && length != 30)\n        return refused(12, place);\n    if (kind < STATE"),
-    ("11 before the kind's 12", "session.c", "    if (length != length_of(kind))", "    if (left < length)\n        return refused(11, place);\n    if (length != length_of(kind))"),
-    ("14 before 11", "session.c", "    if (left < length)", "    if (left > 4 && at[4] > 1)\n        return refused(14, place);\n    if (left < length)"),
+    ("the length tested before the kind", "session.c", "    if (r.kind < STATE", "    if (length != 62 && length != 38 && length != 30 && length != 8)\n        return refused(12, from);\n    if (r.kind < STATE"),
+    ("11 before the kind's 12", "session.c", "    if (length != length_of(r.kind))", "    if (left < length)\n        return refused(11, from);\n    if (length != length_of(r.kind))"),
+    ("14 before 11", "session.c", "    if (left < length)", "    if (left > 4 && r.kind != OFFSET && at[4] > 1)\n        return refused(14, from);\n    if (left < length)"),
     ("vehicle 2 let in", "session.c", "r->vehicle > 1", "r->vehicle > 2"),
-    ("a burn's byte not tested", "session.c", '[BURN] = { "burn", 3, 0 }', '[BURN] = { "burn", 3, 255 }'),
+    ("a burn's byte not tested", "session.c", '[BURN] = { "burn", 38, 3, 0 }', '[BURN] = { "burn", 38, 3, 255 }'),
     ("infinite numbers let in", "session.c", "if (!isfinite(r->numbers[k]))", "if (isnan(r->numbers[k]))"),
+    ("T-03: the offset subtracted", "listing.c", "r->time + MINUTE", "r->time - MINUTE"),
+    ("T-03: the offset read unsigned", "session.c", "r->offset = (int16_t)", "r->offset = (uint16_t)"),
+    ("T-03: the offset forgotten behind the first record", "session.c", "offset ? r.offset : from.offset", "offset ? r.offset : 0"),
+    ("T-03: `<` for `≤` at 840", "session.c", "offset <= OFFSET_MAX", "offset < OFFSET_MAX"),
+    ("T-03: `<` for `≤` at −840", "session.c", "return -OFFSET_MAX <= offset", "return -OFFSET_MAX < offset"),
+    ("T-03: kind 4 let in later", "session.c", "return first && offset_allowed", "return (first || 1) && offset_allowed"),
+    ("T-03: the two zero bytes not tested", "session.c", " && little_endian(at + 6, 2) == 0", ""),
+    ("T-03: a late kind 4 is 13", "session.c", "r.kind > OFFSET)", "r.kind > (from.byte == 0 ? OFFSET : MARK))"),
+    ("T-03: a late kind 4 refused ahead of its length", "session.c", "    if (length != length_of(r.kind))", "    if (r.kind == OFFSET && from.byte > 0)\n        return refused(14, from);\n    if (length != length_of(r.kind))"),
+    ("T-03: `<` for `≤` at a time of 2^53", "session.c", "r->time > time_max", "r->time >= time_max"),
+    ("T-03: `<` for `≤` at a time of −2^53", "session.c", "r->time < -time_max", "r->time <= -time_max"),
+    ("T-03: no limit on times", "session.c", "    if (r->time < -time_max || r->time > time_max)\n        return false;\n", ""),
 ]
 
 

@@ -5,6 +5,7 @@ use crate::inputs;
 use crate::records;
 use lambert::Way;
 use real::Answer;
+use report::Filling;
 use report::Next;
 use solve::Advanced;
 use solve::Transferred;
@@ -112,7 +113,9 @@ fn listings(s: &[u8], out: &mut [u8], count: u64) -> u64 {
     let mut length = 0;
     let mut k = 0;
     while k < count {
-        let f = report::fill(s, Next::Heading, out);
+        let Filling::Lines(f) = report::fill(s, Next::Heading, out) else {
+            return sum;
+        };
         length = f.length;
         sum = fold::word(sum, length as u64);
         k += 1;

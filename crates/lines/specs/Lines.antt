@@ -1,7 +1,7 @@
 -- The lines of the listing, and a line at the front of a buffer. Assumes nothing: these are definitions.
 use Prim.Native.Nat.{ℕ}
 use mathlib.Core.Path.{_≡_}
-use mathlib.Core.List.{List, [], _∷_, _++_}
+use mathlib.Core.List.{List, _++_}
 use mathlib.Core.Bool.{cond}
 use lib.ListN.{length, drop}
 use lib.Dec.{ltb}
@@ -10,29 +10,29 @@ use Rattle.session.specs.declared.record.Kind.{Kind}
 use Rattle.session.specs.declared.record.Record.{Record}
 use Rattle.session.specs.Kinds.{nameOf}
 use Rattle.session.specs.Layout.{kindIn, vehicleIn, timeIn}
-use Rattle.text.specs.Text.{decimal, signedText}
+use Rattle.text.specs.Text.{ascii, decimal, signedText}
 use Rattle.lines.specs.declared.line.Made.{Made}
 use Rattle.lines.specs.declared.line.Made.the-variants.{Line, Refused}
-use Rattle.lines.specs.Days.{dayOf, csOf}
+use Rattle.lines.specs.Days.{localOf, dayOf, csOf}
 
--- `day cs vehicle kind`
 abbrev pub headingText : List ℕ
-headingText = 100 ∷ 97 ∷ 121 ∷ 32 ∷ 99 ∷ 115 ∷ 32 ∷ 118 ∷ 101 ∷ 104 ∷ 105 ∷ 99 ∷ 108 ∷ 101 ∷ 32 ∷ 107 ∷ 105 ∷ 110 ∷ 100 ∷ 10 ∷ []
+headingText = ascii "day cs vehicle kind\n"
 
 -- `DAY CS `
 abbrev pub stampText : ℤ → List ℕ
-stampText t = signedText (dayOf t) ++ (32 ∷ []) ++ decimal (csOf t) ++ (32 ∷ [])
+stampText t = signedText (dayOf t) ++ ascii " " ++ decimal (csOf t) ++ ascii " "
 
 -- `DAY CS VEHICLE KIND`
 abbrev pub eventText : ℤ → ℕ → Kind → List ℕ
-eventText t v k = stampText t ++ decimal v ++ (32 ∷ []) ++ nameOf k ++ (10 ∷ [])
+eventText t v k = stampText t ++ decimal v ++ ascii " " ++ nameOf k ++ ascii "\n"
 
-abbrev pub recordText : Record → List ℕ
-recordText r = eventText (timeIn r) (vehicleIn r) (kindIn r)
+-- the time is shown by the local clock
+abbrev pub recordText : ℤ → Record → List ℕ
+recordText o r = eventText (localOf (timeIn r) o) (vehicleIn r) (kindIn r)
 
 -- `refused NUMBER at PLACE`
 abbrev pub refusedText : ℕ → ℕ → List ℕ
-refusedText n at = (114 ∷ 101 ∷ 102 ∷ 117 ∷ 115 ∷ 101 ∷ 100 ∷ 32 ∷ []) ++ decimal n ++ (32 ∷ 97 ∷ 116 ∷ 32 ∷ []) ++ decimal at ++ (10 ∷ [])
+refusedText n at = ascii "refused " ++ decimal n ++ ascii " at " ++ decimal at ++ ascii "\n"
 
 -- the line x made in the buffer d, which makes e, and r is answered: the line stands at the front and the bytes past it
 -- as they were; if d is under 40 bytes it stays as it was, and the answer is 15

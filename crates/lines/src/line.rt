@@ -2,6 +2,7 @@
 ghost use mathlib.Core.Path.{_≡_};
 ghost use Rattle.session.specs.Kinds.{nameOf};
 ghost use Rattle.text.specs.Text.{IfFits, Put};
+ghost use Rattle.lines.specs.Days.{localOf};
 ghost use Rattle.lines.specs.Lines.{InFront, headingText, recordText, refusedText, stampText, eventText};
 use crate::day::day_of;
 use session::Kind;
@@ -22,16 +23,17 @@ pub fn heading(buf: &mut [u8]) -> Made
     Made::Line(text::bytes(buf, 0, b"day cs vehicle kind\n"))
 }
 
-pub fn record_line(buf: &mut [u8], r: Record) -> Made
-    ensures { λ x. ⌜ InFront (recordText r) (now (buf .entry)) (now (buf .exit)) x ⌝ }
+// The line of a record, its day and cs by the local clock.
+pub fn record_line(buf: &mut [u8], r: Record, offset: i16) -> Made
+    ensures { λ x. ⌜ InFront (recordText offset r) (now (buf .entry)) (now (buf .exit)) x ⌝ }
 {
     if buf.len() < 40 {
         return Made::Refused(15);
     }
     match r {
-        Record::State(x) => Made::Line(event(buf, x.time, x.vehicle, Kind::State)),
-        Record::Burn(x) => Made::Line(event(buf, x.time, x.vehicle, Kind::Burn)),
-        Record::Mark(x) => Made::Line(event(buf, x.time, x.vehicle, Kind::Mark)),
+        Record::State(x) => Made::Line(event(buf, x.time, offset, x.vehicle, Kind::State)),
+        Record::Burn(x) => Made::Line(event(buf, x.time, offset, x.vehicle, Kind::Burn)),
+        Record::Mark(x) => Made::Line(event(buf, x.time, offset, x.vehicle, Kind::Mark)),
     }
 }
 
@@ -60,10 +62,10 @@ fn name(buf: &mut [u8], at: usize, k: Kind) -> usize
     }
 }
 
-fn stamp(buf: &mut [u8], time: i64) -> usize
-    ensures { λ r. ⌜ IfFits (now (buf .entry)) 0 (stampText time) (now (buf .exit)) r ⌝ }
+fn stamp(buf: &mut [u8], time: i64, offset: i16) -> usize
+    ensures { λ r. ⌜ IfFits (now (buf .entry)) 0 (stampText (localOf time offset)) (now (buf .exit)) r ⌝ }
 {
-    let d = day_of(time);
+    let d = day_of(time, offset);
     let day = d.day;
     let cs = d.cs;
     let a = text::signed(buf, 0, day);
@@ -72,10 +74,10 @@ fn stamp(buf: &mut [u8], time: i64) -> usize
     text::byte(buf, c, b' ')
 }
 
-fn event(buf: &mut [u8], time: i64, vehicle: u8, k: Kind) -> usize
-    ensures { λ r. ⌜ IfFits (now (buf .entry)) 0 (eventText time vehicle k) (now (buf .exit)) r ⌝ }
+fn event(buf: &mut [u8], time: i64, offset: i16, vehicle: u8, k: Kind) -> usize
+    ensures { λ r. ⌜ IfFits (now (buf .entry)) 0 (eventText (localOf time offset) vehicle k) (now (buf .exit)) r ⌝ }
 {
-    let a = stamp(buf, time);
+    let a = stamp(buf, time, offset);
     let b = text::number(buf, a, vehicle as u64);
     let c = text::byte(buf, b, b' ');
     let d = name(buf, c, k);

@@ -3,6 +3,7 @@
 use libc::STDERR_FILENO;
 use libc::STDIN_FILENO;
 use libc::STDOUT_FILENO;
+use report::Filling;
 use report::Next;
 ghost use Prim.Native.Nat.{_≤_};
 ghost use lib.ListN.{length};
@@ -51,12 +52,12 @@ fn list_from(fd: i32, name: &[u8]) {
     list(&session[..n], &mut out);
 }
 
-fn list(s: &[u8], out: &mut [u8])
-    requires { ⌜ 40 ≤ length (now out) ⌝ }
-{
+fn list(s: &[u8], out: &mut [u8]) {
     let mut next = Next::Heading;
     loop {
-        let f = report::fill(s, next, out);
+        let Filling::Lines(f) = report::fill(s, next, out) else {
+            return;
+        };
         print(out, f.length);
         next = f.next;
         if report::is_done(next) {
@@ -65,10 +66,10 @@ fn list(s: &[u8], out: &mut [u8])
     }
 }
 
-fn print(out: &[u8], n: usize) {
-    if n <= out.len() {
-        if !io::write_all(STDOUT_FILENO, &out[..n]) {
-            os::fail(b"standard output");
-        }
+fn print(out: &[u8], n: usize)
+    requires { ⌜ n ≤ length (now out) ⌝ }
+{
+    if !io::write_all(STDOUT_FILENO, &out[..n]) {
+        os::fail(b"standard output");
     }
 }

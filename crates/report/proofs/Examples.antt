@@ -1,4 +1,4 @@
--- The document's listing, whole; an unknown kind; an empty session; and every session that is too long. Assumes nothing.
+-- The document's listing, whole, and the same by a local clock; an unknown kind; an empty session; and every session that is too long. Assumes nothing.
 use Prim.Native.Nat.{ℕ, _<_}
 use mathlib.Core.Path.{_≡_, refl, ap, _∙_}
 use mathlib.Core.List.{List, [], _∷_, _++_, append-nil}
@@ -8,23 +8,26 @@ use borrow.Author.Tests.{lt-ltb}
 use Rattle.session.specs.declared.Reading.{Reading}
 use Rattle.session.specs.declared.Reading.the-variants.{Refused}
 use Rattle.session.specs.Layout.{numbersFrom, allFinite}
-use Rattle.session.specs.Read.{readAt}
+use Rattle.session.specs.Read.{start, readAt}
 use Rattle.session.proofs.Examples.{burn}
-use Rattle.text.specs.Text.{digits}
+use Rattle.text.specs.Text.{ascii, digits}
 use Rattle.lines.specs.Lines.{headingText, refusedText}
 use Rattle.report.specs.declared.Next.the-variants.{Heading, At}
 use Rattle.report.specs.Listing.{stepFor, stepsIn, stepsFrom, textOf, listingOf}
 use Rattle.report.proofs.Whole.{line-by-line, nothing-left}
 
--- `0 64 1 burn`
-pub burn-listing : listingOf burn ≡ headingText ++ (48 ∷ 32 ∷ 54 ∷ 52 ∷ 32 ∷ 49 ∷ 32 ∷ 98 ∷ 117 ∷ 114 ∷ 110 ∷ 10 ∷ [])
+pub burn-listing : listingOf burn ≡ ascii "day cs vehicle kind\n0 64 1 burn\n"
 unfolding textOf stepsIn allFinite numbersFrom ofBits digits
 burn-listing = refl
 
--- `refused 13 at 0`
-pub unknown-kind : listingOf (38 ∷ 0 ∷ 4 ∷ 0 ∷ []) ≡ headingText ++ (114 ∷ 101 ∷ 102 ∷ 117 ∷ 115 ∷ 101 ∷ 100 ∷ 32 ∷ 49 ∷ 51 ∷ 32 ∷ 97 ∷ 116 ∷ 32 ∷ 48 ∷ 10 ∷ [])
+pub unknown-kind : listingOf (38 ∷ 0 ∷ 5 ∷ 0 ∷ []) ≡ ascii "day cs vehicle kind\nrefused 13 at 0\n"
 unfolding textOf stepsIn digits
 unknown-kind = refl
+
+-- one minute behind UTC, the burn falls on the day before
+pub night-listing : listingOf (8 ∷ 0 ∷ 4 ∷ 0 ∷ 255 ∷ 255 ∷ 0 ∷ 0 ∷ burn) ≡ ascii "day cs vehicle kind\n-1 8634064 1 burn\n"
+unfolding textOf stepsIn allFinite numbersFrom ofBits digits
+night-listing = refl
 
 pub no-record : listingOf [] ≡ headingText
 unfolding textOf stepsIn
@@ -33,9 +36,9 @@ no-record = refl
 -- `refused 12 at 0`
 pub too-long : (s : List ℕ) → 65536 < length s → listingOf s ≡ headingText ++ refusedText 12 0
 too-long s h =
-    let r : readAt s 0 ≡ Refused 12 (record { at = 0 }) = rw (lt-ltb 65536 (length s) h) refl in
+    let r : readAt s start ≡ Refused 12 start = rw (lt-ltb 65536 (length s) h) refl in
     line-by-line s Heading refl
     ∙ ap (λ (l : List ℕ). headingText ++ l)
-    (line-by-line s (At (record { at = 0 })) refl
+    (line-by-line s (At start) refl
     ∙ ap (λ (a : Reading). stepFor a .line ++ textOf (stepsFrom s (stepFor a .next))) r
     ∙ ap (λ (l : List ℕ). refusedText 12 0 ++ l) (nothing-left s) ∙ append-nil (refusedText 12 0))

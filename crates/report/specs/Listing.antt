@@ -6,33 +6,38 @@ use mathlib.Core.Bool.{Bool, true, false, cond}
 use lib.ListN.{length, drop}
 use lib.Dec.{ltb}
 use Rattle.session.specs.declared.Reading.{Reading}
-use Rattle.session.specs.declared.Reading.the-variants.{Record, End, Refused}
-use Rattle.session.specs.Read.{readAt}
+use Rattle.session.specs.declared.Reading.the-variants.{Record, Offset, End, Refused}
+use Rattle.session.specs.declared.Place.{Place}
+use Rattle.session.specs.Read.{start, readAt}
 use Rattle.lines.specs.declared.line.Made.{Made}
 use Rattle.lines.specs.declared.line.Made.the-variants as M
 use Rattle.lines.specs.Lines.{headingText, recordText, refusedText}
 use Rattle.report.specs.declared.Next.{Next}
 use Rattle.report.specs.declared.Next.the-variants.{Heading, At, Done}
 use Rattle.report.specs.declared.Filled.{Filled}
+use Rattle.report.specs.declared.Filling.{Filling}
+use Rattle.report.specs.declared.Filling.the-variants as F
 
 -- a line, and what comes after it
 pub record Step : Type 0 where
   pub line : List ℕ
   pub next : Next
 
--- a record has its line and the listing goes on behind it; the end has none; a refused record ends the listing
+-- a record has its line, by the clock of its place, and the listing goes on behind it; the offset's record has none, and
+-- the listing goes on with its offset; the end has none; a refused record ends the listing
 abbrev pub stepFor : Reading → Step
-stepFor (Record r p) = record { line = recordText r; next = At p }
+stepFor (Record r p) = record { line = recordText (p .offset) r; next = At p }
+stepFor (Offset p) = record { line = []; next = At p }
 stepFor End = record { line = []; next = Done }
 stepFor (Refused n p) = record { line = refusedText n (p .at); next = Done }
 
-abbrev pub stepAt : List ℕ → ℕ → Step
-stepAt s at = stepFor (readAt s at)
+abbrev pub stepAt : List ℕ → Place → Step
+stepAt s p = stepFor (readAt s p)
 
--- the heading, then what is read from place 0 on
+-- the heading, then what is read from the start on
 abbrev pub stepOf : List ℕ → Next → Step
-stepOf s Heading = record { line = headingText; next = At (record { at = 0 }) }
-stepOf s (At p) = stepAt s (p .at)
+stepOf s Heading = record { line = headingText; next = At start }
+stepOf s (At p) = stepAt s p
 stepOf s Done = record { line = []; next = Done }
 
 -- step after step until the last, at most f of them
@@ -68,6 +73,11 @@ pub record Fills (s : List ℕ) (next : Next) (d e : List ℕ) (r : Filled) : Ty
   pub count : r .length ≡ length (textIn (length d) (stepsFrom s next))
   pub after : r .next ≡ nextIn (length d) next (stepsFrom s next)
   pub buffer : e ≡ textIn (length d) (stepsFrom s next) ++ drop (r .length) d
+
+-- the same, unless d is under 40 bytes: then it stays as it was, and the answer is 15
+pub record FillOf (s : List ℕ) (next : Next) (d e : List ℕ) (r : Filling) : Type 0 where
+  pub answer : r ≡ cond (ltb (length d) 40) (F.Refused 15) (F.Lines (record { length = length (textIn (length d) (stepsFrom s next)); next = nextIn (length d) next (stepsFrom s next) }))
+  pub buffer : e ≡ cond (ltb (length d) 40) d (textIn (length d) (stepsFrom s next) ++ drop (length (textIn (length d) (stepsFrom s next))) d)
 
 -- one step at the front of d
 pub record Stepped (t : Step) (d e : List ℕ) (r : Filled) : Type 0 where

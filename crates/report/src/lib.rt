@@ -2,7 +2,7 @@
 ghost use Prim.Native.Nat.{_≤_};
 ghost use mathlib.Core.Path.{_≡_};
 ghost use lib.ListN.{length};
-ghost use Rattle.report.specs.Listing.{isDone, stepAt, stepOf, Stepped, Fills, sizeOf};
+ghost use Rattle.report.specs.Listing.{isDone, stepAt, stepOf, Stepped, Fills, FillOf, sizeOf};
 use lines::Made;
 use session::Place;
 use session::Reading;
@@ -20,8 +20,23 @@ pub struct Filled {
     pub next: Next,
 }
 
+// What is filled, or the number of the refusal.
+pub enum Filling {
+    Lines(Filled),
+    Refused(u32),
+}
+
 // The lines of the listing of s from `next` on, while 40 bytes are left in `out`.
-pub fn fill(s: &[u8], next: Next, out: &mut [u8]) -> Filled
+pub fn fill(s: &[u8], next: Next, out: &mut [u8]) -> Filling
+    ensures { λ r. ⌜ FillOf (now (s .entry)) next (now (out .entry)) (now (out .exit)) r ⌝ }
+{
+    if out.len() < 40 {
+        return Filling::Refused(15);
+    }
+    Filling::Lines(fill_lines(s, next, out))
+}
+
+fn fill_lines(s: &[u8], next: Next, out: &mut [u8]) -> Filled
     ensures { λ r. ⌜ Fills (now (s .entry)) next (now (out .entry)) (now (out .exit)) r ⌝ }
 {
     let mut n = 0;
@@ -63,7 +78,7 @@ fn step(s: &[u8], next: Next, line: &mut [u8]) -> Filled
             let n = length_of(lines::heading(line));
             Filled {
                 length: n,
-                next: Next::At(Place { at: 0 }),
+                next: Next::At(Place { at: 0, offset: 0 }),
             }
         }
         Next::At(place) => step_at(s, place, line),
@@ -76,16 +91,21 @@ fn step(s: &[u8], next: Next, line: &mut [u8]) -> Filled
 
 fn step_at(s: &[u8], place: Place, line: &mut [u8]) -> Filled
     requires { ⌜ 40 ≤ length (now line) ⌝ }
-    ensures { λ r. ⌜ Stepped (stepAt (now (s .entry)) (place .at)) (now (line .entry)) (now (line .exit)) r ⌝ }
+    ensures { λ r. ⌜ Stepped (stepAt (now (s .entry)) place) (now (line .entry)) (now (line .exit)) r ⌝ }
 {
     match session::read(place, s) {
         Reading::Record(r, behind) => {
-            let n = length_of(lines::record_line(line, r));
+            let o = behind.offset;
+            let n = length_of(lines::record_line(line, r, o));
             Filled {
                 length: n,
                 next: Next::At(behind),
             }
         }
+        Reading::Offset(after) => Filled {
+            length: 0,
+            next: Next::At(after),
+        },
         Reading::End => Filled {
             length: 0,
             next: Next::Done,

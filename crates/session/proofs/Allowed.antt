@@ -18,27 +18,29 @@ use Rattle.session.specs.declared.record.Head.{Head}
 use Rattle.session.specs.declared.record.Head.the-variants.{Good, Bad}
 use Rattle.session.specs.declared.record.Record.{Record}
 use Rattle.session.specs.declared.record.Decoded.the-variants.{Whole}
-use Rattle.session.specs.Bytes.{field}
+use Rattle.field.specs.Bytes.{field}
 use Rattle.session.specs.Kinds.{countOf, topOf}
+use Rattle.session.specs.Limits.{timeAllowed}
 use Rattle.session.specs.Layout.{vehicleAt, byteAt, timeAt, wordAt, numbersFrom, allFinite, recordAt}
 use Rattle.session.specs.Decode.{allowedAt, allowedIn, headOf, decoded, decodeOf, AllFit, Held}
 use Rattle.session.proofs.Table.{length-law}
 use Rattle.session.proofs.Heads.{Holds, good-head}
-use Rattle.session.proofs.Bytes.{Bytes}
+use Rattle.field.proofs.Bytes.{Bytes}
 use Rattle.session.proofs.WriteBack.{field-below}
 
 module _ (s : List ℕ) where
   allowed-at : (k : Kind) → Holds k s → allowedAt k s ≡ true
   allowed-at k h =
-      ap (λ (b : Bool). b && leb (byteAt s) (topOf k) && allFinite (numbersFrom 0 (countOf k) s)) (le-leb (vehicleAt s) 1 (h .vehicle))
-      ∙ ap (λ (b : Bool). b && allFinite (numbersFrom 0 (countOf k) s)) (le-leb (byteAt s) (topOf k) (h .byte))
+      ap (λ (b : Bool). b && leb (byteAt s) (topOf k) && timeAllowed (timeAt s) && allFinite (numbersFrom 0 (countOf k) s)) (le-leb (vehicleAt s) 1 (h .vehicle))
+      ∙ ap (λ (b : Bool). b && timeAllowed (timeAt s) && allFinite (numbersFrom 0 (countOf k) s)) (le-leb (byteAt s) (topOf k) (h .byte))
+      ∙ ap (λ (b : Bool). b && allFinite (numbersFrom 0 (countOf k) s)) (h .time)
       ∙ h .numbers
 
   own-allowed : (k : Kind) → byteAt s ≤ topOf k → allowedIn (recordAt k s) ≡ allowedAt k s
   unfolding numbersFrom
   own-allowed State h = refl
-  own-allowed Burn h = let z : 0 ≡ byteAt s = omega arith in ap (λ (b : ℕ). leb (vehicleAt s) 1 && leb b 0 && allFinite (numbersFrom 0 3 s)) z
-  own-allowed Mark h = let z : 0 ≡ byteAt s = omega arith in ap (λ (b : ℕ). leb (vehicleAt s) 1 && leb b 0 && allFinite (numbersFrom 0 2 s)) z
+  own-allowed Burn h = let z : 0 ≡ byteAt s = omega arith in ap (λ (b : ℕ). leb (vehicleAt s) 1 && leb b 0 && timeAllowed (timeAt s) && allFinite (numbersFrom 0 3 s)) z
+  own-allowed Mark h = let z : 0 ≡ byteAt s = omega arith in ap (λ (b : ℕ). leb (vehicleAt s) 1 && leb b 0 && timeAllowed (timeAt s) && allFinite (numbersFrom 0 2 s)) z
 
   -- what is read from bits fits
   all-fit : (i n : ℕ) → AllFit (numbersFrom i n s)

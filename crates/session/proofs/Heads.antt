@@ -1,28 +1,25 @@
 -- What a record that passed its tests is known to have, once over the kind. Assumes nothing.
-use Prim.Native.Nat.{ℕ, _+_, _≤_, _<_}
+use Prim.Native.Nat.{ℕ, _≤_}
 use native.Mathlib.Omega.{arith}
-use mathlib.Core.Path.{_≡_, refl, sym, ap}
+use mathlib.Core.Path.{_≡_, refl, sym}
 use mathlib.Core.List.{List}
 use mathlib.Core.Bool.{Bool, true, false, cond, not, _&&_}
-use lib.ListN.{length, drop, length-drop}
+use lib.ListN.{length}
 use lib.Dec.{ltb, leb, eqb}
 use borrow.Author.Tests.{ltb-false, leb-true, eqb-true}
 use Rattle.session.specs.declared.record.Kind.{Kind}
+use Rattle.session.specs.declared.record.Kind.the-variants.{State, Burn, Mark}
 use Rattle.session.specs.declared.record.Found.{Found}
 use Rattle.session.specs.declared.record.Found.the-variants.{Known, Unknown}
 use Rattle.session.specs.declared.record.Head.{Head}
 use Rattle.session.specs.declared.record.Head.the-variants.{Good, Bad}
 use Rattle.session.specs.declared.record.Record.{Record}
-use Rattle.session.specs.declared.record.Decoded.{Decoded}
-use Rattle.session.specs.declared.record.Decoded.the-variants.{Whole, Refused}
-use Rattle.session.specs.Bytes.{field}
-use Rattle.session.specs.Layout.{vehicleAt, byteAt, numbersFrom, allFinite}
+use Rattle.session.specs.declared.record.Decoded.the-variants.{Whole}
+use Rattle.field.specs.Bytes.{field}
+use Rattle.session.specs.Layout.{vehicleAt, byteAt, timeAt, numbersFrom, allFinite, recordAt, timeIn}
+use Rattle.session.specs.Limits.{timeAllowed}
 use Rattle.session.specs.Kinds.{kindOf, lengthOf, countOf, topOf}
 use Rattle.session.specs.Decode.{allowedAt, judged, headOf, decoded, decodeOf}
-use Rattle.session.specs.declared.Place.{Place}
-use Rattle.session.specs.declared.Reading.{Reading}
-use Rattle.session.specs.declared.Reading.the-variants as A
-use Rattle.session.specs.Read.{placed, readAt}
 use Rattle.session.proofs.Numbers.{both}
 use Rattle.session.proofs.Table.{long}
 
@@ -48,14 +45,16 @@ pub record Holds (k : Kind) (s : List ℕ) : Type 0 where
   pub size : lengthOf k ≤ length s
   pub vehicle : vehicleAt s ≤ 1
   pub byte : byteAt s ≤ topOf k
+  pub time : timeAllowed (timeAt s) ≡ true
   pub numbers : allFinite (numbersFrom 0 (countOf k) s) ≡ true
 
 judged-good : (f : Found) (s : List ℕ) (k : Kind) → judged f s ≡ Good k → (f ≡ Known k) × Holds k s
 judged-good Unknown s k p = never 13 k p
 judged-good (Known j) s k p =
     let t = tests (eqb (field 0 2 s) (lengthOf j)) (ltb (length s) (lengthOf j)) (allowedAt j s) j k p in
-    let b = both (leb (vehicleAt s) 1 && leb (byteAt s) (topOf j)) (allFinite (numbersFrom 0 (countOf j) s)) (t .2) in
-    let d = both (leb (vehicleAt s) 1) (leb (byteAt s) (topOf j)) (b .0) in
+    let b = both (leb (vehicleAt s) 1 && leb (byteAt s) (topOf j) && timeAllowed (timeAt s)) (allFinite (numbersFrom 0 (countOf j) s)) (t .2) in
+    let m = both (leb (vehicleAt s) 1 && leb (byteAt s) (topOf j)) (timeAllowed (timeAt s)) (b .0) in
+    let d = both (leb (vehicleAt s) 1) (leb (byteAt s) (topOf j)) (m .0) in
     rw (← t .3) (
       refl,
       record {
@@ -63,6 +62,7 @@ judged-good (Known j) s k p =
         size = ltb-false (length s) (lengthOf j) (t .1);
         vehicle = leb-true (vehicleAt s) 1 (d .0);
         byte = leb-true (byteAt s) (topOf j) (d .1);
+        time = m .1;
         numbers = b .1;
       },
     )
@@ -80,31 +80,16 @@ fits-of : (h : Head) (s : List ℕ) (r : Record) (n : ℕ) → h ≡ headOf s �
 fits-of (Good k) s r n e p = let q : lengthOf k ≡ n = cc in rw (← q) (long k, good-head s k (sym e) .size)
 fits-of (Bad x) s r n e p = let z : _≡_ {A = ℕ} 0 1 = cc in let w : ⊥ = omega arith in absurd w
 
+time-of : (h : Head) (s : List ℕ) (r : Record) (n : ℕ) → h ≡ headOf s → decoded h s ≡ Whole r n → timeAllowed (timeIn r) ≡ true
+time-of (Good State) s r n e p = let q : recordAt State s ≡ r = cc in rw (← q) (good-head s State (sym e) .time)
+time-of (Good Burn) s r n e p = let q : recordAt Burn s ≡ r = cc in rw (← q) (good-head s Burn (sym e) .time)
+time-of (Good Mark) s r n e p = let q : recordAt Mark s ≡ r = cc in rw (← q) (good-head s Mark (sym e) .time)
+time-of (Bad x) s r n e p = let z : _≡_ {A = ℕ} 0 1 = cc in let w : ⊥ = omega arith in absurd w
+
+-- a record that was decoded has an allowed time
+pub whole-time : (s : List ℕ) (r : Record) (n : ℕ) → decodeOf s ≡ Whole r n → timeAllowed (timeIn r) ≡ true
+whole-time s r n p = time-of (headOf s) s r n refl p
+
 -- a record that was decoded lies within the bytes
 pub whole-fits : (s : List ℕ) (r : Record) (n : ℕ) → decodeOf s ≡ Whole r n → (30 ≤ n) × (n ≤ length s)
 whole-fits s r n p = fits-of (headOf s) s r n refl p
-
--- what was placed of a record is the record, and the place behind it
-told : (d : Decoded) (at : ℕ) (r : Record) (p : Place) → placed d at ≡ A.Record r p → (n : ℕ) × (d ≡ Whole r n) × (p .at ≡ at + n)
-told (Whole x n) at r p e =
-    let f : x ≡ r = cc in
-    let g : _≡_ {A = Place} (record { at = at + n }) p = cc in
-    (n, ap (λ (y : Record). Whole y n) f, ap (λ (y : Place). y .at) (sym g))
-told (Refused x) at r p e = let z : _≡_ {A = ℕ} 0 1 = cc in let w : ⊥ = omega arith in absurd w
-
--- a record is read only where the session is not too long and the place is before its end
-opened : (a b c : Bool) (q : Place) (t : Place) (d : Reading) (r : Record) (p : Place)
-    → cond a (A.Refused 12 q) (cond b (A.Refused 11 t) (cond c A.End d)) ≡ A.Record r p → (b ≡ false) × (d ≡ A.Record r p)
-opened true b c q t d r p e = let z : _≡_ {A = ℕ} 0 1 = cc in let w : ⊥ = omega arith in absurd w
-opened false true c q t d r p e = let z : _≡_ {A = ℕ} 0 1 = cc in let w : ⊥ = omega arith in absurd w
-opened false false true q t d r p e = let z : _≡_ {A = ℕ} 0 1 = cc in let w : ⊥ = omega arith in absurd w
-opened false false false q t d r p e = (refl, e)
-
--- reading a record goes forward, and not past the end
-pub progress : (s : List ℕ) (at : ℕ) (r : Record) (p : Place) → readAt s at ≡ A.Record r p → (at < p .at) × (p .at ≤ length s)
-progress s at r p e =
-    let o = opened (ltb 65536 (length s)) (ltb (length s) at) (eqb at (length s)) (record { at = 0 }) (record { at = at }) (placed (decodeOf (drop at s)) at) r p e in
-    let l = ltb-false (length s) at (o .0) in
-    let t = told (decodeOf (drop at s)) at r p (o .1) in
-    let f = whole-fits (drop at s) r (t .0) (t .1) in
-    (omega (arith, f .0, t .2), omega (arith, f .1, t .2, l, length-drop at s))

@@ -1,11 +1,14 @@
-pub mod Fields
 pub mod Numbers
+pub mod Limits
 pub mod Table
 pub mod Heads
+pub mod Offsets
+pub mod Progress
 pub mod Refusals
 pub mod Stable
-pub mod Bytes
 pub mod ReadBack
 pub mod WriteBack
 pub mod Allowed
+pub mod OffsetBack
+pub mod Before
 pub mod Examples

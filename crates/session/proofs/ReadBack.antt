@@ -25,11 +25,11 @@ use Rattle.session.specs.declared.record.Head.the-variants.{Good, Bad}
 use Rattle.session.specs.declared.record.Record.{Record}
 use Rattle.session.specs.declared.record.Record.the-variants as R
 use Rattle.session.specs.declared.record.Decoded.the-variants.{Whole}
-use Rattle.session.specs.Bytes.{le, field, bytesLe, bitsOf}
+use Rattle.field.specs.Bytes.{le, field, bytesLe, bitsOf}
 use Rattle.session.specs.Kinds.{numberOf, lengthOf, countOf, kindOf}
 use Rattle.session.specs.Layout.{vehicleAt, byteAt, timeAt, numberAt, numbersFrom, recordWith, recordAt, kindIn, vehicleIn, byteIn, timeIn, numbersIn, headerBytes, numberBytes, bytesOf}
 use Rattle.session.specs.Decode.{allowed, allowedAt, allowedIn, judged, headOf, decoded, decodeOf, AllFit, Held}
-use Rattle.session.proofs.Bytes.{le-bytes, bytes-length}
+use Rattle.field.proofs.Bytes.{le-bytes, bytes-length}
 use Rattle.session.proofs.Table.{length-law, kind-back, length-word, number-word}
 
 -- number i of those written
@@ -46,7 +46,7 @@ number-back (x ∷ xs) (suc i) rest h a =
     ∙ ap (λ (z : List ℕ). ofBits binary64 (le (take 8 z))) (sym (drop-drop (8 * i) 8 l))
     ∙ number-back xs i rest (omega arith) (a .1)
 
-numbers-length : (xs : List Float) → length (numberBytes xs) ≡ 8 * length xs
+pub numbers-length : (xs : List Float) → length (numberBytes xs) ≡ 8 * length xs
 unfolding numberBytes
 numbers-length [] = refl
 numbers-length (x ∷ xs) =
@@ -67,7 +67,7 @@ with-own (R.State r) = refl
 with-own (R.Burn r) = refl
 with-own (R.Mark r) = refl
 
-count-own : (r : Record) → length (numbersIn r) ≡ countOf (kindIn r)
+pub count-own : (r : Record) → length (numbersIn r) ≡ countOf (kindIn r)
 count-own (R.State r) = refl
 count-own (R.Burn r) = refl
 count-own (R.Mark r) = refl
@@ -121,8 +121,8 @@ module _ (k : Kind) (v b : ℕ) (t : ℤ) (xs : List Float) (rest : List ℕ)
       ∙ ap (λ (l : List Float). getD xs j f0 ∷ l) (numbers-back (j + 1) n (omega arith) ∙ rw add-one refl)
       ∙ sym (drop-cons xs j f0 h)
 
-  allowed-back : allowedAt k s ≡ allowed k v b xs
-  allowed-back = cc (vehicle-back, byte-back, numbers-back 0 (countOf k) (zero-add (countOf k) ∙ sym count))
+  allowed-back : allowedAt k s ≡ allowed k v b t xs
+  allowed-back = cc (vehicle-back, byte-back, time-back, numbers-back 0 (countOf k) (zero-add (countOf k) ∙ sym count))
 
   record-back : recordAt k s ≡ recordWith k v b t (λ (i : ℕ). getD xs i f0)
   record-back =
@@ -131,7 +131,7 @@ module _ (k : Kind) (v b : ℕ) (t : ℤ) (xs : List Float) (rest : List ℕ)
       ∙ ap (λ (x : ℤ). recordWith k v b x (numberAt s)) time-back
       ∙ with-same k v b t (numberAt s) (λ (i : ℕ). getD xs i f0) (λ i h. numbers-at i (omega arith))
 
-  head-back : allowed k v b xs ≡ true → headOf s ≡ Good k
+  head-back : allowed k v b t xs ≡ true → headOf s ≡ Good k
   head-back a =
       let four : 4 ≤ lengthOf k = omega (arith, length-law k) in
       ap (λ (q : Bool). cond q (Bad 11) (cond (ltb (field 0 2 s) 4) (Bad 12) (judged (kindOf (field 2 2 s)) s))) (le-ltb (length s) 4 (omega (arith, size-back)))
@@ -141,7 +141,7 @@ module _ (k : Kind) (v b : ℕ) (t : ℤ) (xs : List Float) (rest : List ℕ)
       ∙ ap (λ (q : Bool). cond q (Bad 11) (cond (allowedAt k s) (Good k) (Bad 14))) (le-ltb (length s) (lengthOf k) size-back)
       ∙ ap (λ (q : Bool). cond q (Good k) (Bad 14)) (allowed-back ∙ a)
 
-  fields-back : allowed k v b xs ≡ true → decodeOf s ≡ Whole (recordWith k v b t (λ (i : ℕ). getD xs i f0)) (lengthOf k)
+  fields-back : allowed k v b t xs ≡ true → decodeOf s ≡ Whole (recordWith k v b t (λ (i : ℕ). getD xs i f0)) (lengthOf k)
   fields-back a = ap (λ (h : Head). decoded h s) (head-back a) ∙ ap (λ (r : Record). Whole r (lengthOf k)) record-back
 
 -- the bytes of a record, and any bytes behind them

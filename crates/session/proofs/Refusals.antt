@@ -1,5 +1,5 @@
--- A refusal of the reader is 11, 12, 13 or 14, at the place where the record starts; only a session over 65,536 bytes is
--- refused at 0 wherever the reader stands. Assumes nothing.
+-- A refusal of the reader is 11, 12, 13 or 14, at the place that was handed in; only a session over 65,536 bytes is
+-- refused at the start wherever the reader stands. Assumes nothing.
 use Prim.Native.Nat.{ℕ, _≤_}
 use native.Mathlib.Omega.{arith}
 use mathlib.Core.Path.{_≡_, refl, sym, ap, _∙_}
@@ -7,6 +7,7 @@ use mathlib.Core.List.{List}
 use mathlib.Core.Bool.{Bool, true, false, cond, not}
 use lib.ListN.{length, drop}
 use lib.Dec.{ltb, eqb, lit≤}
+use lib.IntN.{ℤ}
 use borrow.Author.Tests.{le-ltb}
 use Rattle.session.specs.declared.record.Kind.{Kind}
 use Rattle.session.specs.declared.record.Found.{Found}
@@ -17,11 +18,13 @@ use Rattle.session.specs.declared.record.Decoded.{Decoded}
 use Rattle.session.specs.declared.record.Decoded.the-variants as D
 use Rattle.session.specs.declared.Place.{Place}
 use Rattle.session.specs.declared.Reading.{Reading}
-use Rattle.session.specs.declared.Reading.the-variants.{Record, End, Refused}
-use Rattle.session.specs.Bytes.{field}
+use Rattle.session.specs.declared.Reading.the-variants.{Record, Offset, End, Refused}
+use Rattle.field.specs.Bytes.{field}
 use Rattle.session.specs.Kinds.{kindOf, lengthOf}
 use Rattle.session.specs.Decode.{allowedAt, judged, headOf, decoded, decodeOf}
-use Rattle.session.specs.Read.{placed, readAt}
+use Rattle.session.specs.Limits.{offsetAllowed}
+use Rattle.session.specs.Offset.{isOffset, minutesAt, goodOffset, offsetOf, decodeAt}
+use Rattle.session.specs.Read.{start, placed, readAt}
 
 abbrev pub Given : ℕ → Type 0
 Given n = (11 ≤ n) × (n ≤ 14)
@@ -50,46 +53,63 @@ head-given s = front-given (ltb (length s) 4) (ltb (field 0 2 s) 4) (judged (kin
 
 abbrev GivenIn : Decoded → Type 0
 GivenIn (D.Whole r n) = Unit {0}
+GivenIn (D.Offset z) = Unit {0}
 GivenIn (D.Refused n) = Given n
 
 decoded-given : (h : Head) (s : List ℕ) → GivenBy h → GivenIn (decoded h s)
 decoded-given (Good k) s g = tt
 decoded-given (Bad n) s g = g
 
+offset-given : (a b c : Bool) (z : ℤ) → GivenIn (cond (not a) (D.Refused 12) (cond b (D.Refused 11) (cond c (D.Offset z) (D.Refused 14))))
+offset-given false b c z = (lit≤ tt, lit≤ tt)
+offset-given true true c z = (lit≤ tt, lit≤ tt)
+offset-given true false true z = tt
+offset-given true false false z = (lit≤ tt, lit≤ tt)
+
+either-given : (b first : Bool) (s : List ℕ) → GivenIn (cond b (offsetOf first s) (decodeOf s))
+either-given true first s = offset-given (eqb (field 0 2 s) 8) (ltb (length s) 8) (goodOffset first s) (minutesAt s)
+either-given false first s = decoded-given (headOf s) s (head-given s)
+
 -- the number and the place of what was read at a place
-abbrev GivenAt : Bool → ℕ → Reading → Type 0
-GivenAt long at (Record r p) = Unit {0}
-GivenAt long at End = Unit {0}
-GivenAt long at (Refused n p) = Given n × (p .at ≡ cond long 0 at)
+abbrev GivenAt : Bool → Place → Reading → Type 0
+GivenAt long p (Record r q) = Unit {0}
+GivenAt long p (Offset q) = Unit {0}
+GivenAt long p End = Unit {0}
+GivenAt long p (Refused n q) = Given n × (q ≡ cond long start p)
 
-placed-given : (d : Decoded) (at : ℕ) → GivenIn d → GivenAt false at (placed d at)
-placed-given (D.Whole r n) at g = tt
-placed-given (D.Refused n) at g = (g, refl)
+placed-given : (d : Decoded) (p : Place) → GivenIn d → GivenAt false p (placed d p)
+placed-given (D.Whole r n) p g = tt
+placed-given (D.Offset z) p g = tt
+placed-given (D.Refused n) p g = (g, refl)
 
-read-given : (a b c : Bool) (at : ℕ) (d : Reading) → GivenAt false at d
-    → GivenAt a at (cond a (Refused 12 (record { at = 0 })) (cond b (Refused 11 (record { at = at })) (cond c End d)))
-read-given true b c at d g = ((lit≤ tt, lit≤ tt), refl)
-read-given false true c at d g = ((lit≤ tt, lit≤ tt), refl)
-read-given false false true at d g = tt
-read-given false false false at d g = g
+read-given : (a b c d : Bool) (p : Place) (x : Reading) → GivenAt false p x
+    → GivenAt a p (cond a (Refused 12 start) (cond (not b) (Refused 14 p) (cond c (Refused 11 p) (cond d End x))))
+read-given true b c d p x g = ((lit≤ tt, lit≤ tt), refl)
+read-given false false c d p x g = ((lit≤ tt, lit≤ tt), refl)
+read-given false true true d p x g = ((lit≤ tt, lit≤ tt), refl)
+read-given false true false true p x g = tt
+read-given false true false false p x g = g
 
-given : (s : List ℕ) (at : ℕ) → GivenAt (ltb 65536 (length s)) at (readAt s at)
-given s at =
-    read-given (ltb 65536 (length s)) (ltb (length s) at) (eqb at (length s)) at (placed (decodeOf (drop at s)) at)
-    (placed-given (decodeOf (drop at s)) at (decoded-given (headOf (drop at s)) (drop at s) (head-given (drop at s))))
+given : (s : List ℕ) (p : Place) → GivenAt (ltb 65536 (length s)) p (readAt s p)
+given s p =
+    let l = drop (p .at) s in
+    let f = eqb (p .at) 0 in
+    read-given (ltb 65536 (length s)) (offsetAllowed (p .offset)) (ltb (length s) (p .at)) (eqb (p .at) (length s)) p (placed (decodeAt f l) p)
+    (placed-given (decodeAt f l) p (either-given (isOffset l) f l))
 
-told : (a : Reading) (long : Bool) (at n : ℕ) (p : Place) → a ≡ Refused n p → GivenAt long at a → Given n × (p .at ≡ cond long 0 at)
-told (Record r q) long at n p e g = let z : _≡_ {A = ℕ} 0 1 = cc in let w : ⊥ = omega arith in absurd w
-told End long at n p e g = let z : _≡_ {A = ℕ} 0 1 = cc in let w : ⊥ = omega arith in absurd w
-told (Refused m q) long at n p e g =
-    let x : m ≡ n = cc in
-    let y : q ≡ p = cc in
-    (rw (← x) (g .0), ap (λ (z : Place). z .at) (sym y) ∙ g .1)
+told : (a : Reading) (long : Bool) (p : Place) (n : ℕ) (q : Place) → a ≡ Refused n q → GivenAt long p a → Given n × (q ≡ cond long start p)
+told (Record r x) long p n q e g = let z : _≡_ {A = ℕ} 0 1 = cc in let w : ⊥ = omega arith in absurd w
+told (Offset x) long p n q e g = let z : _≡_ {A = ℕ} 0 1 = cc in let w : ⊥ = omega arith in absurd w
+told End long p n q e g = let z : _≡_ {A = ℕ} 0 1 = cc in let w : ⊥ = omega arith in absurd w
+told (Refused m x) long p n q e g =
+    let y : m ≡ n = cc in
+    let z : x ≡ q = cc in
+    (rw (← y) (g .0), sym z ∙ g .1)
 
-pub refusal-number : (s : List ℕ) (at n : ℕ) (p : Place) → readAt s at ≡ Refused n p → Given n
-refusal-number s at n p e = told (readAt s at) (ltb 65536 (length s)) at n p e (given s at) .0
+pub refusal-number : (s : List ℕ) (p : Place) (n : ℕ) (q : Place) → readAt s p ≡ Refused n q → Given n
+refusal-number s p n q e = told (readAt s p) (ltb 65536 (length s)) p n q e (given s p) .0
 
-pub refusal-place : (s : List ℕ) (at n : ℕ) (p : Place) → length s ≤ 65536 → readAt s at ≡ Refused n p → p .at ≡ at
-refusal-place s at n p h e =
-    told (readAt s at) (ltb 65536 (length s)) at n p e (given s at) .1
-    ∙ ap (λ (b : Bool). cond b 0 at) (le-ltb 65536 (length s) h)
+pub refusal-place : (s : List ℕ) (p : Place) (n : ℕ) (q : Place) → length s ≤ 65536 → readAt s p ≡ Refused n q → q ≡ p
+refusal-place s p n q h e =
+    told (readAt s p) (ltb 65536 (length s)) p n q e (given s p) .1
+    ∙ ap (λ (b : Bool). cond b start p) (le-ltb 65536 (length s) h)

@@ -17,7 +17,7 @@ use Rattle.session.specs.declared.record.Head.{Head}
 use Rattle.session.specs.declared.record.Head.the-variants.{Good, Bad}
 use Rattle.session.specs.declared.record.Record.{Record}
 use Rattle.session.specs.declared.record.Decoded.the-variants.{Whole, Refused}
-use Rattle.session.specs.Bytes.{le, field}
+use Rattle.field.specs.Bytes.{le, field}
 use Rattle.session.specs.Layout.{numberAt, numbersFrom, recordAt}
 use Rattle.session.specs.Kinds.{kindOf, lengthOf, countOf}
 use Rattle.session.proofs.Table.{length-law}
@@ -50,7 +50,8 @@ module _ (s t : List ℕ) where
       let a = byte-more 4 (omega (arith, length-law k)) in
       let b = byte-more 5 (omega (arith, length-law k)) in
       let c = numbers-more 0 (countOf k) (omega (arith, length-law k)) in
-      rw (a, b, c) refl
+      let d = field-more 6 8 (omega (arith, length-law k)) in
+      rw (a, b, c, d) refl
 
   record-more : (k : Kind) → lengthOf k ≤ length s → recordAt k (s ++ t) ≡ recordAt k s
   record-more State h = cc (byte-more 4 (omega arith), byte-more 5 (omega arith), field-more 6 8 (omega arith), number-more 0 (omega arith), number-more 1 (omega arith), number-more 2 (omega arith), number-more 3 (omega arith), number-more 4 (omega arith), number-more 5 (omega arith))

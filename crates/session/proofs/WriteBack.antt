@@ -18,16 +18,16 @@ use Rattle.session.specs.declared.record.Head.{Head}
 use Rattle.session.specs.declared.record.Head.the-variants.{Good, Bad}
 use Rattle.session.specs.declared.record.Record.{Record}
 use Rattle.session.specs.declared.record.Decoded.the-variants.{Whole}
-use Rattle.session.specs.Bytes.{le, field, bytesLe, bitsOf}
+use Rattle.field.specs.Bytes.{le, field, bytesLe, bitsOf}
 use Rattle.session.specs.Kinds.{numberOf, lengthOf, countOf, topOf}
 use Rattle.session.specs.Layout.{vehicleAt, byteAt, timeAt, wordAt, numberAt, numbersFrom, allFinite, recordAt, headerBytes, numberBytes, bytesOf}
 use Rattle.session.specs.Decode.{headOf, decoded, decodeOf}
 use Rattle.session.proofs.Numbers.{both}
 use Rattle.session.proofs.Table.{length-law, kind-number}
 use Rattle.session.proofs.Heads.{good-head, good-kind}
-use Rattle.session.proofs.Bytes.{Bytes, bytes-le, bytes-take, bytes-drop, le-below}
+use Rattle.field.proofs.Bytes.{Bytes, bytes-le, bytes-take, bytes-drop, le-below}
 
-not-nan : (x : Float) → finite x ≡ true → T (not (isNan x))
+pub not-nan : (x : Float) → finite x ≡ true → T (not (isNan x))
 unfolding isNan
 not-nan nan h = absurd (true≢false (sym h))
 not-nan (inf s) h = tt
@@ -38,7 +38,7 @@ module _ (s : List ℕ) (bytes : Bytes s) where
   part-length o w h = length-take-le w (drop o s) (simp length-drop (omega arith))
 
   -- the bytes of a field
-  field-bytes : (o w : ℕ) → o + w ≤ length s → bytesLe w (field o w s) ≡ take w (drop o s)
+  pub field-bytes : (o w : ℕ) → o + w ≤ length s → bytesLe w (field o w s) ≡ take w (drop o s)
   field-bytes o w h =
       let p = take w (drop o s) in
       ap (λ (n : ℕ). bytesLe n (le p)) (sym (part-length o w h)) ∙ bytes-le p (bytes-take w (drop o s) (bytes-drop o s bytes))

@@ -4,6 +4,7 @@ use mathlib.Core.List.{List, [], _∷_}
 use mathlib.Core.Bool.{Bool, cond, not, _&&_}
 use lib.ListN.{length}
 use lib.Dec.{T, ltb, leb, eqb}
+use lib.IntN.{ℤ}
 use lib.Ieee.{Float, binary64, fits}
 use mir.Syntax.{w64}
 use mir.Val.{SFits}
@@ -15,19 +16,20 @@ use Rattle.session.specs.declared.record.Head.the-variants.{Good, Bad}
 use Rattle.session.specs.declared.record.Record.{Record}
 use Rattle.session.specs.declared.record.Decoded.{Decoded}
 use Rattle.session.specs.declared.record.Decoded.the-variants.{Whole, Refused}
-use Rattle.session.specs.Bytes.{field}
+use Rattle.field.specs.Bytes.{field}
 use Rattle.session.specs.Kinds.{kindOf, lengthOf, countOf, topOf}
-use Rattle.session.specs.Layout.{vehicleAt, byteAt, numbersFrom, allFinite, recordAt, kindIn, vehicleIn, byteIn, timeIn, numbersIn}
+use Rattle.session.specs.Limits.{timeAllowed}
+use Rattle.session.specs.Layout.{vehicleAt, byteAt, timeAt, numbersFrom, allFinite, recordAt, kindIn, vehicleIn, byteIn, timeIn, numbersIn}
 
--- what a vehicle, a byte and numbers may be: else 14
-abbrev pub allowed : Kind → ℕ → ℕ → List Float → Bool
-allowed k v b xs = leb v 1 && leb b (topOf k) && allFinite xs
+-- what a vehicle, a byte, a time and numbers may be: else 14
+abbrev pub allowed : Kind → ℕ → ℕ → ℤ → List Float → Bool
+allowed k v b t xs = leb v 1 && leb b (topOf k) && timeAllowed t && allFinite xs
 
 abbrev pub allowedAt : Kind → List ℕ → Bool
-allowedAt k s = allowed k (vehicleAt s) (byteAt s) (numbersFrom 0 (countOf k) s)
+allowedAt k s = allowed k (vehicleAt s) (byteAt s) (timeAt s) (numbersFrom 0 (countOf k) s)
 
 abbrev pub allowedIn : Record → Bool
-allowedIn r = allowed (kindIn r) (vehicleIn r) (byteIn r) (numbersIn r)
+allowedIn r = allowed (kindIn r) (vehicleIn r) (byteIn r) (timeIn r) (numbersIn r)
 
 -- the tests in their order: from the length on, and all of them
 abbrev pub judged : Found → List ℕ → Head

@@ -1,16 +1,16 @@
 // One record at the front of some bytes: its tests in their order, and its fields.
 ghost use Prim.Native.Nat.{_+_, _*_, _≤_};
 ghost use mathlib.Core.Path.{_≡_};
-ghost use mathlib.Core.Bool.{true};
 ghost use lib.ListN.{length};
-ghost use Rattle.session.specs.Bytes.{field};
+ghost use Rattle.field.specs.Bytes.{field};
 ghost use Rattle.session.specs.Kinds.{kindOf, lengthOf, countOf, topOf};
-ghost use Rattle.session.specs.Layout.{numbersFrom, allFinite, recordAt};
+ghost use Rattle.session.specs.Layout.{recordAt};
 ghost use Rattle.session.specs.Decode.{allowedAt, judged, headOf, decodeOf};
-use crate::field::are_finite;
-use crate::field::le_of;
-use crate::field::number;
-use crate::field::signed;
+use crate::limit::time_allowed;
+use crate::payload::are_finite;
+use crate::payload::number;
+use field::read;
+use field::signed;
 use vector::State;
 use vector::Vector;
 
@@ -40,9 +40,10 @@ pub enum Record {
     Mark(MarkRecord),
 }
 
-// A record and its length, or the number of the refusal.
+// A record and its length, the local offset that its own record sets, or the number of the refusal.
 pub enum Decoded {
     Whole(Record, usize),
+    Offset(i16),
     Refused(u32),
 }
 
@@ -121,6 +122,9 @@ fn is_allowed(k: Kind, s: &[u8]) -> bool
     if s[5] > top {
         return false;
     }
+    if !time_allowed(signed(read(s, 6, 8))) {
+        return false;
+    }
     are_finite(s, n)
 }
 
@@ -150,21 +154,21 @@ fn test_head(s: &[u8]) -> Head
     if s.len() < 4 {
         return Head::Bad(11);
     }
-    let n = le_of(&s[0..2]);
+    let n = read(s, 0, 2);
     if n < 4 {
         return Head::Bad(12);
     }
-    match kind_of(le_of(&s[2..4])) {
+    match kind_of(read(s, 2, 2)) {
         Found::Known(k) => judge(k, n, s),
         Found::Unknown => Head::Bad(13),
     }
 }
 
 fn state_of(s: &[u8]) -> Record
-    requires { ⌜ (62 ≤ length (now s)) × (allFinite (numbersFrom 0 6 (now s)) ≡ true) ⌝ }
+    requires { ⌜ 62 ≤ length (now s) ⌝ }
     ensures { λ r. ⌜ r ≡ recordAt Kind.State (now (s .entry)) ⌝ }
 {
-    let time = signed(le_of(&s[6..14]));
+    let time = signed(read(s, 6, 8));
     let vehicle = s[4];
     let body = s[5];
     let rx = number(s, 0);
@@ -190,10 +194,10 @@ fn state_of(s: &[u8]) -> Record
 }
 
 fn burn_of(s: &[u8]) -> Record
-    requires { ⌜ (38 ≤ length (now s)) × (allFinite (numbersFrom 0 3 (now s)) ≡ true) ⌝ }
+    requires { ⌜ 38 ≤ length (now s) ⌝ }
     ensures { λ r. ⌜ r ≡ recordAt Kind.Burn (now (s .entry)) ⌝ }
 {
-    let time = signed(le_of(&s[6..14]));
+    let time = signed(read(s, 6, 8));
     let vehicle = s[4];
     let x = number(s, 0);
     let y = number(s, 1);
@@ -207,10 +211,10 @@ fn burn_of(s: &[u8]) -> Record
 }
 
 fn mark_of(s: &[u8]) -> Record
-    requires { ⌜ (30 ≤ length (now s)) × (allFinite (numbersFrom 0 2 (now s)) ≡ true) ⌝ }
+    requires { ⌜ 30 ≤ length (now s) ⌝ }
     ensures { λ r. ⌜ r ≡ recordAt Kind.Mark (now (s .entry)) ⌝ }
 {
-    let time = signed(le_of(&s[6..14]));
+    let time = signed(read(s, 6, 8));
     let vehicle = s[4];
     let range = number(s, 0);
     let rate = number(s, 1);
@@ -223,7 +227,7 @@ fn mark_of(s: &[u8]) -> Record
 }
 
 fn record_of(k: Kind, s: &[u8]) -> Record
-    requires { ⌜ (lengthOf k ≤ length (now s)) × (allFinite (numbersFrom 0 (countOf k) (now s)) ≡ true) ⌝ }
+    requires { ⌜ lengthOf k ≤ length (now s) ⌝ }
     ensures { λ r. ⌜ r ≡ recordAt k (now (s .entry)) ⌝ }
 {
     match k {
@@ -233,7 +237,7 @@ fn record_of(k: Kind, s: &[u8]) -> Record
     }
 }
 
-// The record at the front of s, with no place and no limit on what is behind it.
+// The record of the table at the front of s, with no place and no limit on what is behind it.
 pub fn decode(s: &[u8]) -> Decoded
     ensures { λ r. ⌜ r ≡ decodeOf (now (s .entry)) ⌝ }
 {

@@ -6,7 +6,7 @@ use Rattle.listing.proofs.print.Statement.{statement}
 use Rattle.listing.proofs.print.Tie as tie
 
 slice-aggregate-write-all : tie.Need-slice-aggregate-write-all
-slice-aggregate-write-all c = sym (length-take-le _ _ (c .before .if1 .taken))
+slice-aggregate-write-all c = sym (length-take-le _ _ (c .before .before .pre))
 
 write-all-requires : tie.Need-write-all-requires
 write-all-requires c κs = search needs
@@ -23,9 +23,6 @@ returns c = search needs
 returns-2 : tie.Need-returns-2
 returns-2 c = search needs
 
-returns-3 : tie.Need-returns-3
-returns-3 c = search needs
-
 pub print-spec : {M : Type 1} → statement M
 print-spec =
     tie.close
@@ -35,5 +32,4 @@ print-spec =
     slice-aggregate-fail
     fail-requires
     returns
-    returns-2
-    returns-3)
+    returns-2)

@@ -19,6 +19,18 @@ loop-holds c = (refl, omega arith)
 fill-requires : tie.Need-fill-requires Inv-loop μ-loop
 fill-requires c κs = search needs
 
+enum-known-f : tie.Need-enum-known-f Inv-loop μ-loop
+enum-known-f c = search needs
+
+enum-told : tie.Need-enum-told Inv-loop μ-loop
+enum-told c = search needs
+
+same-length : tie.Need-same-length Inv-loop μ-loop
+same-length c = c .before .before .before .before .fill .kept .1 .1 .0 ∙ c .before .before .before .before .before .before .before .loop .inv .0
+
+returns : tie.Need-returns Inv-loop μ-loop
+returns c = search needs
+
 word-requires : tie.Need-word-requires Inv-loop μ-loop
 word-requires c κs = search needs
 
@@ -29,7 +41,7 @@ loop-less : tie.Need-loop-less Inv-loop μ-loop
 loop-less c = search needs
 
 loop-again : tie.Need-loop-again Inv-loop μ-loop
-loop-again c = (c .before .before .before .fill .kept .1 .1 .0 ∙ c .before .before .before .before .before .before .loop .inv .0, omega arith)
+loop-again c = (c .before .before .before .before .before .before .fill .kept .1 .1 .0 ∙ c .before .before .before .before .before .before .before .before .before .loop .inv .0, omega arith)
 
 within-requires : tie.Need-within-requires Inv-loop μ-loop
 within-requires c κs = search needs
@@ -43,11 +55,11 @@ slice-aggregate-bytes c = search needs
 bytes-requires : tie.Need-bytes-requires Inv-loop μ-loop
 bytes-requires c κs = search needs
 
-same-length : tie.Need-same-length Inv-loop μ-loop
-same-length c = c .before .before .before .before .before .loop .inv .0
+same-length-2 : tie.Need-same-length-2 Inv-loop μ-loop
+same-length-2 c = c .before .before .before .before .before .loop .inv .0
 
-returns : tie.Need-returns Inv-loop μ-loop
-returns c = search needs
+returns-2 : tie.Need-returns-2 Inv-loop μ-loop
+returns-2 c = search needs
 
 pub listings-spec : {M : Type 1} → statement M
 listings-spec =
@@ -57,6 +69,10 @@ listings-spec =
     μ-loop
     loop-holds
     fill-requires
+    enum-known-f
+    enum-told
+    same-length
+    returns
     word-requires
     add-k
     loop-less
@@ -65,5 +81,5 @@ listings-spec =
     slice-reshare-prefix-bytes
     slice-aggregate-bytes
     bytes-requires
-    same-length
-    returns)
+    same-length-2
+    returns-2)

@@ -1,5 +1,5 @@
 -- The five parts one behind the other. Assumes nothing.
-use mir.Syntax.{w64}
+use mir.Syntax.{w16, w64}
 use mir.Facts.{toZ-ofZ}
 use Rattle.text.proofs.Puts.{and-then}
 use borrow.Author.Needs.{needs}
@@ -28,7 +28,8 @@ returns : tie.Need-returns
 returns c =
     let a = c .before .before .before .before .before .before .before .before .before .before .before .before .before .before .before .before .before .before .before .before .before .args in
     let s = toZ-ofZ {w = w64} {z = a .time} (c .before .before .before .before .before .before .before .before .before .before .before .before .before .before .before .before .before .before .before .before .before .fits .time) in
-    let p = rw s at (c .before .before .before .before .before .before .before .before .before .before .before .before .before .before .before .before .before .before .stamp .ensures) in
+    let o = toZ-ofZ {w = w16} {z = a .offset} (c .before .before .before .before .before .before .before .before .before .before .before .before .before .before .before .before .before .before .before .before .before .fits .offset) in
+    let p = rw (s, o) at (c .before .before .before .before .before .before .before .before .before .before .before .before .before .before .before .before .before .before .stamp .ensures) in
     let q = and-then p (c .before .before .before .before .before .before .before .before .before .before .before .before .before .before .number .ensures) in
     let u = and-then q (c .before .before .before .before .before .before .before .before .before .before .byte .ensures) in
     and-then (and-then u (c .before .before .before .before .before .before .name .ensures)) (c .before .before .byte2 .ensures)

@@ -1,10 +1,12 @@
--- Each kind by its time and vehicle. Assumes nothing.
+-- Each kind by its time, offset and vehicle. Assumes nothing.
 use denote.Ref.{now}
-use mir.Syntax.{w64}
+use mir.Syntax.{w16, w64}
 use mir.Val.{SFits}
 use mir.Facts.{toZ-ofZ}
 use Rattle.session.specs.declared.record.Kind.the-variants.{State, Burn, Mark}
+use Rattle.lines.specs.Days.{localOf}
 use Rattle.lines.specs.Lines.{recordText}
+use Rattle.lines.proofs.Locals.{local-small}
 use Rattle.lines.proofs.Sizes.{event-fits}
 use Rattle.lines.proofs.Fronts.{too-short, in-front}
 use borrow.Author.Needs.{needs}
@@ -12,7 +14,7 @@ use Rattle.lines.proofs.line.record_line.Statement.{statement}
 use Rattle.lines.proofs.line.record_line.Tie as tie
 
 returns : tie.Need-returns
-returns c = too-short (recordText (c .before .before .args .r)) (now (c .before .before .args .buf)) (c .if1 .taken)
+returns c = too-short (recordText (c .before .before .args .offset) (c .before .before .args .r)) (now (c .before .before .args .buf)) (c .if1 .taken)
 
 enum-known-r : tie.Need-enum-known-r
 enum-known-r c = search needs
@@ -38,9 +40,13 @@ same-length c = search needs
 returns-2 : tie.Need-returns-2
 returns-2 c =
     let x = c .before .before .before .before .before .before .r .given in
-    let h : SFits w64 (x .0 .0 .time) = record { sfits = c .before .before .before .struct-told .given .1 .1 .0 .1 } in
-    let s = toZ-ofZ {w = w64} {z = x .0 .0 .time} h in
-    rw (x .1) (in-front (c .before .before .before .before .before .before .before .before .if1 .left) (event-fits (x .0 .0 .time) (x .0 .0 .vehicle) State h (c .before .before .before .struct-told .given .0 .1)) (rw s at (c .before .before .event .ensures)))
+    let o = c .before .before .before .before .before .before .before .before .before .before .args .offset in
+    let t = x .0 .0 .time in
+    let h : SFits w64 t = record { sfits = c .before .before .before .struct-told .given .1 .1 .0 .1 } in
+    let s = toZ-ofZ {w = w64} {z = t} h in
+    let u = toZ-ofZ {w = w16} {z = o} (c .before .before .before .before .before .before .before .before .before .before .fits .offset) in
+    let l = local-small t o h (c .before .before .before .before .before .before .before .before .before .before .fits .offset) in
+    rw (x .1) (in-front (c .before .before .before .before .before .before .before .before .if1 .left) (event-fits (localOf t o) (x .0 .0 .vehicle) State l (c .before .before .before .struct-told .given .0 .1)) (rw (s, u) at (c .before .before .event .ensures)))
 
 same-length-2 : tie.Need-same-length-2
 same-length-2 c = search needs
@@ -48,9 +54,13 @@ same-length-2 c = search needs
 returns-3 : tie.Need-returns-3
 returns-3 c =
     let x = c .before .before .before .before .before .before .r2 .given in
-    let h : SFits w64 (x .0 .0 .time) = record { sfits = c .before .before .before .struct-told2 .given .1 .0 .1 } in
-    let s = toZ-ofZ {w = w64} {z = x .0 .0 .time} h in
-    rw (x .1) (in-front (c .before .before .before .before .before .before .before .before .if1 .left) (event-fits (x .0 .0 .time) (x .0 .0 .vehicle) Burn h (c .before .before .before .struct-told2 .given .0 .1)) (rw s at (c .before .before .event2 .ensures)))
+    let o = c .before .before .before .before .before .before .before .before .before .before .args .offset in
+    let t = x .0 .0 .time in
+    let h : SFits w64 t = record { sfits = c .before .before .before .struct-told2 .given .1 .0 .1 } in
+    let s = toZ-ofZ {w = w64} {z = t} h in
+    let u = toZ-ofZ {w = w16} {z = o} (c .before .before .before .before .before .before .before .before .before .before .fits .offset) in
+    let l = local-small t o h (c .before .before .before .before .before .before .before .before .before .before .fits .offset) in
+    rw (x .1) (in-front (c .before .before .before .before .before .before .before .before .if1 .left) (event-fits (localOf t o) (x .0 .0 .vehicle) Burn l (c .before .before .before .struct-told2 .given .0 .1)) (rw (s, u) at (c .before .before .event2 .ensures)))
 
 same-length-3 : tie.Need-same-length-3
 same-length-3 c = search needs
@@ -58,9 +68,13 @@ same-length-3 c = search needs
 returns-4 : tie.Need-returns-4
 returns-4 c =
     let x = c .before .before .before .before .before .before .r3 .given in
-    let h : SFits w64 (x .0 .0 .time) = record { sfits = c .before .before .before .struct-told3 .given .1 .0 .1 } in
-    let s = toZ-ofZ {w = w64} {z = x .0 .0 .time} h in
-    rw (x .1) (in-front (c .before .before .before .before .before .before .before .before .if1 .left) (event-fits (x .0 .0 .time) (x .0 .0 .vehicle) Mark h (c .before .before .before .struct-told3 .given .0 .1)) (rw s at (c .before .before .event3 .ensures)))
+    let o = c .before .before .before .before .before .before .before .before .before .before .args .offset in
+    let t = x .0 .0 .time in
+    let h : SFits w64 t = record { sfits = c .before .before .before .struct-told3 .given .1 .0 .1 } in
+    let s = toZ-ofZ {w = w64} {z = t} h in
+    let u = toZ-ofZ {w = w16} {z = o} (c .before .before .before .before .before .before .before .before .before .before .fits .offset) in
+    let l = local-small t o h (c .before .before .before .before .before .before .before .before .before .before .fits .offset) in
+    rw (x .1) (in-front (c .before .before .before .before .before .before .before .before .if1 .left) (event-fits (localOf t o) (x .0 .0 .vehicle) Mark l (c .before .before .before .struct-told3 .given .0 .1)) (rw (s, u) at (c .before .before .event3 .ensures)))
 
 pub record-line-spec : {M : Type 1} → statement M
 record-line-spec =

@@ -1,0 +1,59 @@
+#include "session.h"
+
+enum { DAY = 8640000, MINUTE = 6000 };
+
+/* The listing's words, each put at a place and answering the place behind it. */
+
+static char *put_text(char *at, const char *text)
+{
+    while (*text)
+        *at++ = *text++;
+    return at;
+}
+
+static char *put_whole(char *at, int64_t n)
+{
+    uint64_t left = n < 0 ? 0 - (uint64_t)n : (uint64_t)n;
+    char digits[20];
+    int count = 0;
+    do
+        digits[count++] = (char)('0' + left % 10);
+    while ((left /= 10) > 0);
+    if (n < 0)
+        *at++ = '-';
+    while (count > 0)
+        *at++ = digits[--count];
+    return at;
+}
+
+static char *put_line(char *at, const record *r, int offset)
+{
+    int64_t local = r->time + MINUTE * (int64_t)offset;
+    int64_t day = local / DAY - (local % DAY < 0);
+    int64_t cs = local % DAY + (local % DAY < 0 ? DAY : 0);
+    at = put_text(put_whole(at, day), " ");
+    at = put_text(put_whole(at, cs), " ");
+    at = put_text(put_whole(at, r->vehicle), " ");
+    return put_text(put_text(at, name_of(r->kind)), "\n");
+}
+
+static char *put_refusal(char *at, const reading *read)
+{
+    at = put_whole(put_text(at, "refused "), read->refused);
+    return put_text(put_whole(put_text(at, " at "), (int64_t)read->place.byte), "\n");
+}
+
+listed listing(const uint8_t *session, size_t size, char out[LISTING_MAX])
+{
+    char *at = put_text(out, "day cs vehicle kind\n");
+    for (place from = { 0, 0 };;) {
+        reading read = read_record(session, size, from);
+        if (read.refused)
+            at = put_refusal(at, &read);
+        if (read.refused || read.end)
+            return (listed){ (size_t)(at - out), read.refused != 0 };
+        if (read.record.kind != OFFSET)
+            at = put_line(at, &read.record, read.place.offset);
+        from = read.place;
+    }
+}
