@@ -20,7 +20,7 @@ build_c() {
         need "$cc" gcc-x86-64-linux-gnu libc6-dev-amd64-cross
     fi
     need make make
-    make -s -C "$home/second" CC=$cc OPT=-O3 OUT=../target/second-x86-64 LDFLAGS=-static LDLIBS= >&2 ||
+    make -s -C "$home/second" CC=$cc OPT=-O3 OUT="$keep/second-x86-64" LDFLAGS=-static LDLIBS= >&2 ||
         fail "the second program could not be built for x86-64"
 }
 
@@ -62,7 +62,7 @@ build_c
 emulator=()
 [ ${#start[@]} -eq 3 ] || emulator=("${start[0]}")
 rattle=("${start[@]}" "${program[bench]}")
-c=("${emulator[@]}" "$home/target/second-x86-64/second" bench)
+c=("${emulator[@]}" "$keep/second-x86-64/second" bench)
 times=$(mktemp -d)
 clean+=("$times")
 

@@ -66,7 +66,6 @@ if [ ${#crates[@]} -gt 0 ]; then
     lock
     rt check "${above[@]}" | grep -E '^rt: |error' | grep -v 'unchanged since'
     try_edits "${crates[@]}"
-    unlock
 else
     say "no crate is changed"
 fi

@@ -34,19 +34,33 @@ requests() {
     ask_both
 }
 
+# Lists every OF-th session by both programs, from the K-th on.
+list_some() { # K OF
+    local all=("$room"/sessions/*) k name
+    for ((k = $1; k < ${#all[@]}; k += $2)); do
+        name=${all[k]##*/}
+        "$second" list "${all[k]}" >"$room/second/$name" || [ $? -eq 1 ]
+        run listing "${all[k]}" >"$room/listing/$name"
+    done
+}
+
 sessions() {
-    local session wrong=0
+    local jobs running=() k session name wrong=0
     echo "$sessions fresh sessions, seed $seed"
     ready listing
-    mkdir "$room/sessions"
+    mkdir "$room/sessions" "$room/second" "$room/listing"
     "$second" sessions "$seed" "$sessions" "$room/sessions"
+    jobs=$(nproc)
+    for ((k = 0; k < jobs; k++)); do
+        list_some "$k" "$jobs" &
+        running+=($!)
+    done
+    for k in "${running[@]}"; do wait "$k"; done
     for session in "$room"/sessions/*; do
-        "$second" list "$session" >"$room/second" || [ $? -eq 1 ]
-        run listing "$session" >"$room/listing"
-        if ! cmp -s "$room/second" "$room/listing"; then
-            wrong=$((wrong + 1))
-            echo "$session: the listing ends '$(tail -n 1 "$room/listing")', the second program's '$(tail -n 1 "$room/second")'"
-        fi
+        name=${session##*/}
+        cmp -s "$room/second/$name" "$room/listing/$name" && continue
+        wrong=$((wrong + 1))
+        echo "$session: the listing ends '$(tail -n 1 "$room/listing/$name")', the second program's '$(tail -n 1 "$room/second/$name")'"
     done
     echo "$sessions sessions, $wrong differences"
     [ "$wrong" -eq 0 ]

@@ -9,8 +9,9 @@ shopt -s inherit_errexit extglob
 export LC_ALL=C
 keep=$home/.cabin # proved programs, each under a name of its own, their logs, and the lock
 failure=2
-clean=() # what goes away at the end
-trap 'status=$?; rm -rf "${clean[@]}"; [ "$status" -eq 0 ] || exit "$failure"' EXIT
+clean=()     # what goes away at the end
+at_end=true # what is still done then
+trap 'status=$?; "$at_end" || status=2; rm -rf "${clean[@]}"; [ "$status" -eq 0 ] || exit "$failure"' EXIT
 # A write that fails is then an error like any other, and told as such.
 trap '' PIPE XFSZ
 
@@ -81,13 +82,15 @@ digest() { # NAME
 
 # ---- programs
 
-# One proof at a time in a checkout: who comes second waits.
+# One proof at a time in a checkout: who comes second waits. Held to the end of the shell that takes it, and by all that
+# it starts.
 lock() {
-    mkdir -p "$keep" 2>/dev/null && [ -w "$keep" ] || fail "$keep cannot be written: prove and build where you may write"
-    exec {lock}>>"$keep/lock"
+    [ -z "${CABIN_LOCKED:-}" ] || return 0
+    { mkdir -p "$keep" && exec {lock}>>"$keep/lock"; } 2>/dev/null ||
+        fail "$keep cannot be written: prove and build where you may write"
     flock -n "$lock" || { say "waiting for another cabin command that proves in this checkout"; flock "$lock"; }
+    export CABIN_LOCKED=yes
 }
-unlock() { exec {lock}>&-; }
 
 # Tells each crate that is proved.
 progress() { # OF
@@ -99,29 +102,31 @@ progress() { # OF
     done
 }
 
+# Proves and builds a program and moves it in whole, unless that was done while this waited, or its files have changed
+# since it began.
+prove() { # NAME
+    local made log=$keep/$1.log
+    lock
+    made=$(digest "$1") || exit 2
+    [ ! -x "$keep/$1-$made" ] || return 0
+    say "proving and building '$1' (once; a few minutes)"
+    (cd "$home" && rt check "$1") 2>&1 </dev/null | tee "$log" | progress "$(related below "$1" | wc -l)" ||
+        fail "'$1' could not be built: the end of $log says why"
+    [ "$(digest "$1")" = "$made" ] || { say "a file of '$1' changed meanwhile"; return 0; }
+    find "$keep" -name "$1-*" -mmin +60 -delete
+    cp "$home/target/bin/$1" "$keep/$1.new" && mv "$keep/$1.new" "$keep/$1-$made" || fail "'$1' could not be put into $keep"
+}
+
 declare -A program # NAME: the path of its proved program
 
-# Proves and builds a program, unless it is there and nothing that it is made of has changed since. A program is moved
-# in whole, so that one that runs is never pulled away; and one whose files changed meanwhile is proved again. Under
-# CABIN_BUILD=no nothing is built: the gate builds once.
+# Sees to it that a program is there that is made of its files as they are now. Under CABIN_BUILD=no nothing is built: the
+# gate builds once.
 ready() { # NAME
-    local made log=$keep/$1.log
     need_kit
-    made=$(digest "$1")
-    program[$1]=$keep/$1-$made
-    [ ! -x "${program[$1]}" ] || return 0
-    [ "${CABIN_BUILD:-yes}" = yes ] || fail "'$1' is not built as its files are now"
-    lock
-    while made=$(digest "$1"); program[$1]=$keep/$1-$made; [ ! -x "${program[$1]}" ]; do
-        say "proving and building '$1' (once; a few minutes)"
-        (cd "$home" && rt check "$1") 2>&1 </dev/null | tee "$log" | progress "$(related below "$1" | wc -l)" ||
-            fail "'$1' could not be built: the end of $log says why"
-        [ "$(digest "$1")" = "$made" ] || { say "a file of '$1' changed meanwhile"; continue; }
-        find "$keep" -name "$1-*" -mmin +60 -delete
-        cp "$home/target/bin/$1" "$keep/$1.new"
-        mv "$keep/$1.new" "${program[$1]}"
+    while program[$1]=$keep/$1-$(digest "$1"); [ ! -x "${program[$1]}" ]; do
+        [ "${CABIN_BUILD:-yes}" = yes ] || fail "'$1' is not built as its files are now"
+        (prove "$1") || exit 2
     done
-    unlock
 }
 
 # Runs a program that is ready.

@@ -3,7 +3,7 @@
 means that something was refused, no listing is cut and called whole, and two uses at once do not disturb each other.
 
 Where something has to be built, the front is copied to a room of its own with a stand-in for the kit, which 'builds' by
-copying a program that is proved already."""
+handing out a program that is proved already."""
 import os
 import pathlib
 import re
@@ -35,7 +35,7 @@ check)
     echo "start $2" >>"$STUB/runs"
     cat >/dev/null
     [ ! -f "$STUB/hook" ] || . "$STUB/hook"
-    mkdir -p target/bin && cp "$STUB/$2" "target/bin/$2" || exit 2
+    mkdir -p target/bin && ln -f "$STUB/$2" "target/bin/$2" || exit 2
     echo "rt: $2 proved (0 s)"
     echo "end $2" >>"$STUB/runs"
     ;;
@@ -75,8 +75,8 @@ def hold(got, status, wrote=None, says=""):
 
 def program(name):
     """The path of a program of this checkout."""
-    subprocess.run([ROOT / "cabin", "run", name], input=b"", capture_output=True, check=True)
-    return max((ROOT / ".cabin").glob(f"{name}-*"), key=os.path.getmtime)
+    ran = subprocess.run([ROOT / "cabin", "ready", name], stdout=subprocess.PIPE, text=True, check=True)
+    return ran.stdout.split("\n")[-2]
 
 
 class Room:
@@ -97,7 +97,7 @@ class Room:
         (self.stub / "rt").write_text(KIT.replace("@DOC@", doc))
         (self.stub / "rt").chmod(0o755)
         shutil.copy(program("listing"), self.stub / "listing")
-        self.env = dict(os.environ, PATH=f"{self.stub}:{os.environ['PATH']}", STUB=str(self.stub), CABIN_BUILD="yes")
+        self.env = dict(os.environ, PATH=f"{self.stub}:{os.environ['PATH']}", STUB=str(self.stub), CABIN_BUILD="yes", CABIN_LOCKED="")
         self.top.chmod(0o755)
         return self
 
@@ -260,13 +260,17 @@ def _():
         hold(room.front("list", SAMPLE), 0, WHOLE)
         subprocess.run(["chmod", "-R", "a-w", room.home], check=True)
         hold(room.front("list", SAMPLE, nobody=True), 0, WHOLE)
+        subprocess.run(["chmod", "-R", "u+w", room.home / "crates"], check=True)
+        room.write("crates/listing/src/more.rt", "")
+        hold(room.front("list", SAMPLE, nobody=True), 2, b"", "cannot be written")
 
 
 @case("a disk that is full while a program is built: 2, and whole later")
 def _():
-    with Room() as room:
-        hold(room.front("list", SAMPLE, limit=0), 2, b"")
-        hold(room.front("list", SAMPLE), 0, WHOLE)
+    for limit in (0, 1000):
+        with Room() as room:
+            hold(room.front("list", SAMPLE, limit=limit), 2, b"")
+            hold(room.front("list", SAMPLE), 0, WHOLE)
 
 
 # ---- ways to call it
@@ -363,6 +367,16 @@ def _():
         gate.communicate(timeout=60)
 
 
+@case("two gates at once: the second waits for the first")
+def _():
+    with Room() as room:
+        (room.stub / "ci").write_text('echo in >>"$STUB/runs"; sleep 1; echo out >>"$STUB/runs"; echo "1 passed, 0 failed"\n')
+        both = [room.start("test"), room.start("test")]
+        said = b"".join(one.communicate(timeout=60)[1] for one in both)
+        order = [line for line in room.runs() if line in ("in", "out")]
+        assert b"waiting" in said and order == ["in", "out"] * 2, (order, said)
+
+
 @case("nothing is installed without a word, and what cannot be installed gives 2")
 def _():
     with Room() as room:
@@ -390,14 +404,14 @@ def _():
 
 # ---- the gate
 
-def gate(room, ci, fails=()):
-    """The lines of ./cabin test over parts that pass, but for those that fail."""
+def gate(room, ci, fails=(), **more):
+    """The status and the lines of ./cabin test over parts that pass, but for those that fail."""
     (room.stub / "ci").write_text(ci)
     for name in re.findall(r"python3 tools/(\w+\.py)", (ROOT / "tools" / "test.sh").read_text()):
         room.write(f"tools/{name}", f"import sys; print('{name} was made'); sys.exit({int(name in fails)})\n")
     room.write("tools/compare.sh", f'echo "compare $1 was made, build $CABIN_BUILD"; case " {" ".join(fails)} " in *" $1 "*) exit 1 ;; esac\n')
-    status, wrote, _said = room.front("test")
-    return status, wrote.decode().split("\n")[:-1]
+    status, wrote, _said = room.front("test", **more)
+    return status, (wrote or b"").decode().split("\n")[:-1]
 
 
 def parts(lines):
@@ -423,6 +437,11 @@ def _():
             status, lines = gate(room, ci, fails)
             assert (status, lines[-1], parts(lines)) == (2, count, made), (status, count, lines)
             assert any(line.startswith("FAILED: ") for line in lines), lines
+        with open("/dev/full", "wb") as full:
+            assert gate(room, 'echo "40 passed, 0 failed"\n', stdout=full)[0] == 2
+        room.env["PATH"] = "/usr/bin:/bin"
+        status, lines = gate(room, "")
+        assert (status, lines[-1]) == (2, "0 passed, 1 failed"), (status, lines)
 
 
 def main():

@@ -10,10 +10,11 @@ sys.path.insert(0, str(pathlib.Path(__file__).parent))
 from make_sample import BURN, MARK, listing, night, offset, record, sample
 
 CABIN = pathlib.Path(__file__).resolve().parent.parent / 'cabin'
+LISTING = subprocess.run([CABIN, 'ready', 'listing'], stdout=subprocess.PIPE, text=True, check=True).stdout.split('\n')[:-1]
 
 
 def run(*words, given=b''):
-    ran = subprocess.run([CABIN, 'run', 'listing', *words], input=given, capture_output=True)
+    ran = subprocess.run([*LISTING, *words], input=given, capture_output=True)
     return ran.stdout, ran.stderr
 
 

@@ -1,7 +1,6 @@
 #!/usr/bin/env python3
 """What the pages say of crates/ is so: every name that a row of docs/RULES.md cites is defined in the file that it names,
-and the picture of docs/ARCHITECTURE.md has each crate once, above all that it stands on. Says which files of specs/ no
-row cites; that alone is no fault."""
+and the picture of docs/ARCHITECTURE.md has each crate once, above all that it stands on."""
 import pathlib
 import re
 import sys
@@ -50,8 +49,6 @@ def main():
                     faults.append(f"docs/RULES.md:{number}: {file} does not define {name}")
         if re.match(r"\| .* \|$", line) and "`" in line.rsplit(" | ", 1)[-1] and not CITED.search(line):
             faults.append(f"docs/RULES.md:{number}: the row cites a name without its file")
-    specs = {f"{path.parts[-3]}/specs/{path.stem}" for path in ROOT.glob("crates/*/specs/*.antt") if path.stem != "Lib"}
-    print("not cited: " + ", ".join(sorted(specs - files)))
     print("\n".join(faults + [f"{names} names of docs/RULES.md in {len(files)} files, {len(faults)} faults"]))
     return 1 if faults else 0
 

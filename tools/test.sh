@@ -6,7 +6,8 @@ home=$(cd "$(dirname "${BASH_SOURCE[0]}")/.." && pwd -P)
 . "$home/tools/front.sh"
 cd "$home"
 
-passed=0 failed=0 wrong=()
+passed=0 failed=0 wrong=() whole=no
+at_end=verdict
 
 part() { # NAME COMMAND..
     printf '\n== %s\n' "$1"
@@ -23,9 +24,7 @@ part() { # NAME COMMAND..
 proofs() {
     local log=$keep/gate.log
     printf '\n== proofs, must-fail edits, programs\n'
-    lock
     rt ci 2>&1 | tee "$log" | sed -u '/^[0-9]* passed, [0-9]* failed$/d' || true
-    unlock
     if [[ $(tail -n 1 "$log") =~ ^([0-9]+)\ passed,\ ([0-9]+)\ failed$ ]]; then
         passed=$((passed + BASH_REMATCH[1])) failed=$((failed + BASH_REMATCH[2]))
         [ "${BASH_REMATCH[2]}" -eq 0 ] || wrong+=(proofs)
@@ -33,13 +32,25 @@ proofs() {
         failed=$((failed + 1)) wrong+=("proofs, which gave no count")
     fi
     for main in crates/*/src/main.rt; do
-        ./cabin ready "$(basename "${main%/src/main.rt}")" || true
+        ./cabin ready "$(basename "${main%/src/main.rt}")" >/dev/null || true
     done
     export CABIN_BUILD=no
 }
 
+# Printed at the end, wherever that is.
+verdict() {
+    if [ "$whole" = no ]; then
+        failed=$((failed + 1))
+        wrong+=("the gate itself, which was cut off")
+    fi
+    printf '\n'
+    for one in "${wrong[@]}"; do printf 'FAILED: %s\n' "$one"; done
+    printf '%s passed, %s failed\n' "$passed" "$failed"
+}
+
 need_kit
 need python3 python3
+lock
 part "layout" rt fmt --check
 part "promises" python3 tools/promises.py
 part "rules" python3 tools/rules.py
@@ -53,8 +64,5 @@ part "the front, where things go wrong" python3 tools/front_runs.py
 part "stored requests" bash tools/compare.sh stored
 part "fresh requests" bash tools/compare.sh requests
 part "fresh sessions" bash tools/compare.sh sessions
-
-printf '\n'
-for one in "${wrong[@]}"; do printf 'FAILED: %s\n' "$one"; done
-printf '%s passed, %s failed\n' "$passed" "$failed"
+whole=yes
 [ "$failed" -eq 0 ]

@@ -1,3 +1,1 @@
-pub mod RowLaws
-pub mod LineLaws
-pub mod DoneLaws
+pub mod Lengths

@@ -18,12 +18,6 @@ enum Named {
     Unknown,
 }
 
-fn digit(d: u64) -> u8
-    requires { ⌜ d < 16 ⌝ }
-{
-    if d < 10 { 48 + d as u8 } else { 55 + d as u8 }
-}
-
 // 16 digits and a newline.
 fn print(sum: u64) {
     let mut line = [b'\n'; 17];
@@ -31,7 +25,7 @@ fn print(sum: u64) {
     let mut rest = sum;
     while 0 < at {
         at -= 1;
-        line[at] = digit(rest % 16);
+        line[at] = text::digit(rest);
         rest /= 16;
     }
     io::write_all(STDOUT_FILENO, &line);

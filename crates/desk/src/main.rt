@@ -1,25 +1,33 @@
 // A request a line on standard input, an answer a line on standard output. The work is in `reply`; this reads lines.
 use libc::STDIN_FILENO;
 use libc::STDOUT_FILENO;
+use split::Found;
+use text::Made;
 ghost use Prim.Native.Nat.{_≤_};
-ghost use mathlib.Core.Path.{_≡_};
 ghost use lib.ListN.{length};
+ghost use Rattle.desk.specs.Keeps.{Inside, Keeps};
 
 // How much of a line is kept: one byte more than it may have, so that a longer one is known as such.
 const KEPT: usize = 1001;
 
-// Writes the reply to a line, and answers whether that went well.
+// Writes the front of a buffer to standard output, and answers whether that went well; else standard error says so.
+fn write(out: &[u8], n: usize) -> bool
+    requires { ⌜ n ≤ length (now out) ⌝ }
+{
+    let is_written = io::write_all(STDOUT_FILENO, &out[..n]);
+    if !is_written {
+        os::fail(b"standard output");
+    }
+    is_written
+}
+
+// Writes the reply to a line, and answers whether that went well. 512 bytes have room for every reply.
 fn answer(line: &[u8]) -> bool {
     let mut out = [0u8; 512];
-    let n = reply::reply(line, &mut out);
-    if n <= 512 {
-        let is_written = io::write_all(STDOUT_FILENO, &out[..n]);
-        if !is_written {
-            os::fail(b"standard output");
-        }
-        return is_written;
+    match reply::reply(line, &mut out) {
+        Made::Line(n) => write(&out, n),
+        Made::Refused(_) => false,
     }
-    false
 }
 
 // What comes of some input: the bytes kept of a line whose newline is still to come, or the end.
@@ -28,30 +36,32 @@ enum Fed {
     Stopped,
 }
 
-fn feed(input: &[u8], line: &mut [u8], kept: usize) -> Fed {
+// Answers the lines that end in the input.
+fn feed(input: &[u8], line: &mut [u8], kept: usize) -> Fed
+    requires { ⌜ kept ≤ length (now line) ⌝ }
+    ensures { λ r. ⌜ Inside r (length (now (line .exit))) × Keeps (now (input .entry)) (now (line .entry)) kept (now (line .exit)) r ⌝ }
+{
     let mut k = kept;
-    let mut i = 0;
-    while i < input.len() {
-        let b = input[i];
-        i += 1;
-        if b == b'\n' {
-            if k > line.len() {
-                return Fed::Stopped;
+    let mut from = 0;
+    loop {
+        match split::next_line(line, k, input, from) {
+            Found::Line(n, at) => {
+                if !answer(&line[..n]) {
+                    return Fed::Stopped;
+                }
+                k = 0;
+                from = at;
             }
-            if !answer(&line[..k]) {
-                return Fed::Stopped;
-            }
-            k = 0;
-        } else if k < line.len() {
-            line[k] = b;
-            k += 1;
+            Found::Kept(n) => return Fed::Kept(n),
         }
     }
-    Fed::Kept(k)
 }
 
 // One read, and the lines that it ends.
-fn take_some(line: &mut [u8], kept: usize) -> Fed {
+fn take_some(line: &mut [u8], kept: usize) -> Fed
+    requires { ⌜ kept ≤ length (now line) ⌝ }
+    ensures { λ r. ⌜ Inside r (length (now (line .exit))) ⌝ }
+{
     let mut input = [0u8; 65536];
     let got = libc::read(STDIN_FILENO, &mut input);
     if got < 0 {
@@ -60,9 +70,7 @@ fn take_some(line: &mut [u8], kept: usize) -> Fed {
     }
     if got == 0 {
         if kept > 0 {
-            if kept <= line.len() {
-                answer(&line[..kept]);
-            }
+            answer(&line[..kept]);
         }
         return Fed::Stopped;
     }

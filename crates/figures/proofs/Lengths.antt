@@ -1,18 +1,17 @@
 -- How long a figure can be. Assumes nothing.
-use Prim.Native.Nat.{ℕ, _+_, _*_, _/_, _^_, _≤_, _<_, zero-le}
+use Prim.Native.Nat.{ℕ, _*_, _/_, _^_, _≤_, _<_}
 use native.Mathlib.Nat.{div-lt-iff-lt-mul, mul-right-comm, mul-lt-mul-of-pos-right}
 use native.Mathlib.Omega.{arith}
-use mathlib.Core.Path.{_≡_, refl, _∙_, subst}
-use mathlib.Core.List.{List, [], _∷_, _++_}
+use mathlib.Core.Path.{_≡_, refl, subst}
+use mathlib.Core.List.{_∷_}
 use mathlib.Core.Bool.{Bool, true, false, cond}
 use lib.ListN.{length, length-append}
 use lib.Dec.{leb, lit≤, lit<}
 use lib.Ieee.{Float, nan, inf, fin, binary64, up, down, isNan, toBits}
 use lib.Ieee.Fits.{down-pos}
 use borrow.Author.Tests.{leb-false}
-use Rattle.text.specs.Text.{decimal}
 use Rattle.text.proofs.Decimals.{short}
-use Rattle.figures.specs.Figures.{places, nanText, largeText, minusText, millionths, fixedOf, bitsOf}
+use Rattle.figures.specs.Figures.{places, nanText, largeText, millionths, fixedOf, bitsOf}
 use Rattle.figures.proofs.Places.{minus-short, places-length}
 
 millionths-short : (s : Bool) (n : ℕ) → n < 8796093022208000000 → length (millionths s n) ≤ 21

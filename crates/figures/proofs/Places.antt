@@ -1,5 +1,6 @@
 -- Laws of the last k digits of a number. Assumes nothing.
 use Prim.Native.Nat.{ℕ, zero, suc, _+_, _-_, _/_, _%_, _^_, _≤_, _<_, zero-le, suc-le-suc}
+use native.Mathlib.Nat.{mod-lt}
 use native.Mathlib.Omega.{arith}
 use mathlib.Core.Path.{_≡_, refl, sym, ap, _∙_}
 use mathlib.Core.List.{List, [], _∷_, _++_}
@@ -7,10 +8,10 @@ use mathlib.Core.Bool.{Bool, true, false}
 use lib.ListN.{length, take, drop, length-append}
 use lib.Seq.{take-at}
 use lib.Dec.{lit≤}
-use Rattle.text.specs.Text.{Stands, Put, decimal}
+use Rattle.text.specs.Text.{Stands, Put, digitText, decimal}
 use Rattle.text.proofs.Stand.{at-front, then, same-size}
 use Rattle.text.proofs.Decimals.{short}
-use Rattle.figures.specs.Figures.{digitText, places, minusText}
+use Rattle.figures.specs.Figures.{places, minusText}
 
 pub places-none : (base k n : ℕ) → k ≡ 0 → places base k n ≡ []
 unfolding places
@@ -32,6 +33,15 @@ places-length base (suc k) n =
 pub nonzero : (k : ℕ) → (k ≡ 0 → ⊥) → 1 ≤ k
 nonzero zero z = absurd (z refl)
 nonzero (suc k) z = suc-le-suc zero-le
+
+small : (d : ℕ) → d < 16 → d % 16 ≡ d
+small d h = omega arith
+
+-- the last digit to a base of at most 16
+pub last-digit : (base n : ℕ) → 1 ≤ base → base ≤ 16 → digitText (n % base % 16) ≡ digitText (n % base)
+last-digit base n h l =
+    let e : n % base % 16 ≡ n % base = small (n % base) (omega (arith, mod-lt n h)) in
+    ap digitText e
 
 -- what stands at the front of a buffer is the front
 pub front : {d x e : List ℕ} {r : ℕ} → Stands d 0 x e r → take r e ≡ x

@@ -1,34 +1,29 @@
 -- Numbers as text: six places for people, and the exact bits. Assumes nothing: these are definitions.
-use Prim.Native.Nat.{ℕ, zero, suc, _+_, _*_, _/_, _%_, _^_}
+use Prim.Native.Nat.{ℕ, zero, suc, _*_, _/_, _%_, _^_}
 use mathlib.Core.Bool.{Bool, true, false, cond}
 use mathlib.Core.List.{List, [], _∷_, _++_}
-use lib.Dec.{ltb, leb}
+use lib.Dec.{leb}
 use lib.Ieee.{Float, nan, inf, fin, binary64, up, down, isNan, toBits}
-use Rattle.text.specs.Text.{decimal}
-
--- `0` to `9`, `A` to `F`
-unfoldable pub digitText : ℕ → ℕ
-digitText d = cond (ltb d 10) (48 + d) (55 + d)
+use Rattle.text.specs.Text.{ascii, digitText, decimal}
 
 -- the last k digits of n to a base
 unfoldable pub places : ℕ → ℕ → ℕ → List ℕ
 places base zero n = []
 places base (suc k) n = places base k (n / base) ++ (digitText (n % base) ∷ [])
 
--- `nan`, `large`
 abbrev pub nanText : List ℕ
-nanText = 110 ∷ 97 ∷ 110 ∷ []
+nanText = ascii "nan"
 
 abbrev pub largeText : List ℕ
-largeText = 108 ∷ 97 ∷ 114 ∷ 103 ∷ 101 ∷ []
+largeText = ascii "large"
 
 abbrev pub minusText : Bool → List ℕ
-minusText true = 45 ∷ []
+minusText true = ascii "-"
 minusText false = []
 
 -- a sign and n millionths
 abbrev pub millionths : Bool → ℕ → List ℕ
-millionths s n = ((minusText s ++ decimal (n / 1000000)) ++ (46 ∷ [])) ++ places 10 6 n
+millionths s n = ((minusText s ++ decimal (n / 1000000)) ++ ascii ".") ++ places 10 6 n
 
 -- x to six places, cut towards zero, with the sign that it has; `large` for a size of 2^43 or more
 unfoldable pub fixedOf : Float → List ℕ
@@ -38,4 +33,4 @@ fixedOf (fin s m e) = cond (leb (2 ^ 43 * down e) (m * up e)) largeText (million
 
 -- `x` and the 16 digits of the bits
 unfoldable pub bitsOf : Float → List ℕ
-bitsOf x = cond (isNan x) nanText (120 ∷ places 16 16 (toBits binary64 x))
+bitsOf x = cond (isNan x) nanText (ascii "x" ++ places 16 16 (toBits binary64 x))

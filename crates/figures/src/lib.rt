@@ -3,20 +3,9 @@
 ghost use Prim.Native.Nat.{_+_, _*_, _^_, _/_, _%_, _≤_, _<_};
 ghost use mathlib.Core.Path.{_≡_};
 ghost use lib.ListN.{length};
-ghost use lib.Ieee.{binary64, ofBits};
 ghost use Rattle.text.specs.Text.{Stands, Put};
-ghost use Rattle.figures.specs.Figures.{digitText, places, minusText, millionths, fixedOf, bitsOf};
+ghost use Rattle.figures.specs.Figures.{places, minusText, millionths, fixedOf, bitsOf};
 ghost use Rattle.figures.specs.Millionths.{millionthsOf};
-
-fn digit(d: u64) -> u8
-    requires { ⌜ d < 16 ⌝ }
-    ensures { λ r. ⌜ r ≡ digitText d ⌝ }
-{
-    if d < 10 {
-        return 48 + d as u8;
-    }
-    55 + d as u8
-}
 
 // The last k digits of n to a base.
 fn put_places(buf: &mut [u8], at: usize, n: u64, base: u64, k: usize) -> usize
@@ -27,7 +16,7 @@ fn put_places(buf: &mut [u8], at: usize, n: u64, base: u64, k: usize) -> usize
         return at;
     }
     let e = put_places(buf, at, n / base, base, k - 1);
-    text::byte(buf, e, digit(n % base))
+    text::byte(buf, e, text::digit(n % base))
 }
 
 // The millionths in the size of the number whose bits are b, below 2^43: the significand's product with 10^6 has up to

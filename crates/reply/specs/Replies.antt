@@ -1,30 +1,43 @@
 -- What the desk replies to a line. Assumes nothing: these are definitions.
 use Prim.Native.Nat.{ℕ}
 use mathlib.Core.List.{List, []}
+use Rattle.text.specs.Pieces.{concat}
+use Rattle.columns.specs.Rows.{unreadPieces}
 use Rattle.root.specs.Root.{rootAnswer}
 use Rattle.series.specs.Series.{cAnswer, sAnswer}
 use Rattle.iterator.specs.Single.{trialOf}
 use Rattle.solve.specs.Answers.{advanceOf, transferVelocityOf}
 use Rattle.theta.specs.Theta.{thetaOf}
 use Rattle.apsides.specs.Apsides.{apsidesOf}
-use Rattle.requests.specs.declared.line.Request.{Request}
-use Rattle.requests.specs.declared.line.Request.the-variants.{Nothing, Root, C, S, Trial, Kepler, Lambert, Theta, Apsides, Unread}
-use Rattle.requests.specs.Lines.{requestOf}
-use Rattle.answers.specs.Lines.{unreadText}
-use Rattle.answers.specs.Answers.{numberText, triedText, advancedText, transferredText, timedText, apsidesText}
+use Rattle.forms.specs.declared.Request.{Request}
+use Rattle.forms.specs.declared.Request.the-variants.{Nothing, Root, C, S, Trial, Unread}
+use Rattle.forms.specs.declared.Request.the-variants as Q
+use Rattle.forms.specs.declared.Solve.{Solve}
+use Rattle.forms.specs.declared.Solve.the-variants.{Kepler, Lambert, Theta, Apsides}
+use Rattle.requests.specs.Requests.{requestOf}
+use Rattle.answers.specs.Answers.{answerPieces, triedPieces, timedPieces, apsidesPieces}
+use Rattle.solutions.specs.Solutions.{advancedPieces, transferredPieces}
 
--- the routine's own answer, as a line; nothing where nothing is asked
-abbrev pub replyOf : Request → List ℕ
+-- the bytes that hold every line
+abbrev pub room : ℕ
+room = 512
+
+-- the routine's own answer, as a line
+unfoldable pub solvedOf : Solve → List (List ℕ)
+solvedOf (Kepler mu state time) = advancedPieces (advanceOf mu state time)
+solvedOf (Lambert mu first second time way) = transferredPieces (transferVelocityOf mu first second way time)
+solvedOf (Theta mu state sine cosine) = timedPieces (thetaOf mu state sine cosine)
+solvedOf (Apsides mu state) = apsidesPieces (apsidesOf mu state)
+
+-- and nothing where nothing is asked
+abbrev pub replyOf : Request → List (List ℕ)
 replyOf Nothing = []
-replyOf (Root x) = numberText (rootAnswer x)
-replyOf (C xi) = numberText (cAnswer xi)
-replyOf (S xi) = numberText (sAnswer xi)
-replyOf (Trial asked lo hi below above k) = triedText (trialOf asked lo hi below above k)
-replyOf (Kepler mu state time) = advancedText (advanceOf mu state time)
-replyOf (Lambert mu first second time way) = transferredText (transferVelocityOf mu first second way time)
-replyOf (Theta mu state sine cosine) = timedText (thetaOf mu state sine cosine)
-replyOf (Apsides mu state) = apsidesText (apsidesOf mu state)
-replyOf (Unread w) = unreadText w
+replyOf (Root x) = answerPieces (rootAnswer x)
+replyOf (C xi) = answerPieces (cAnswer xi)
+replyOf (S xi) = answerPieces (sAnswer xi)
+replyOf (Trial asked lo hi below above k) = triedPieces (trialOf asked lo hi below above k)
+replyOf (Q.Solve x) = solvedOf x
+replyOf (Unread w) = unreadPieces w
 
 abbrev pub replyText : List ℕ → List ℕ
-replyText line = replyOf (requestOf line)
+replyText line = concat (replyOf (requestOf line))

@@ -1,14 +1,42 @@
 // The desk: a line in, a line out.
-ghost use Rattle.answers.specs.Lines.{Line};
-ghost use Rattle.reply.specs.Replies.{replyText};
-use requests::Request;
+ghost use Rattle.text.specs.Text.{InFront};
+ghost use Rattle.text.specs.Pieces.{Laid};
+ghost use Rattle.reply.specs.Replies.{room, solvedOf, replyOf, replyText};
+use forms::Request;
+use forms::Solve;
+use text::Made;
 
-// The reply to a line, made at the front of a lent buffer: its length, newline and all. 0 where nothing is asked, and
-// for a buffer of under 512 bytes; the buffer is then as it was.
-pub fn reply(line: &[u8], buf: &mut [u8]) -> usize
-    ensures { λ r. ⌜ Line (replyText (now (line .entry))) (now (buf .entry)) (now (buf .exit)) r ⌝ }
+// A solve's answer, at the front of a lent buffer.
+fn solved(buf: &mut [u8], given: Solve) -> usize
+    ensures { λ r. ⌜ Laid (now (buf .entry)) 0 (solvedOf given) (now (buf .exit)) r ⌝ }
 {
-    match requests::read(line) {
+    match given {
+        Solve::Kepler { mu, state, time } => solutions::tell_advance(
+            buf,
+            solve::advance(mu, state, time),
+        ),
+        Solve::Lambert {
+            mu,
+            first,
+            second,
+            time,
+            way,
+        } => solutions::tell_transfer(buf, solve::transfer_velocity(mu, first, second, way, time)),
+        Solve::Theta {
+            mu,
+            state,
+            sine,
+            cosine,
+        } => answers::tell_time(buf, theta::time_theta(mu, state, sine, cosine)),
+        Solve::Apsides { mu, state } => answers::tell_apsides(buf, apsides::periapo(mu, state)),
+    }
+}
+
+// What is asked, answered likewise.
+fn answered(buf: &mut [u8], request: Request) -> usize
+    ensures { λ r. ⌜ Laid (now (buf .entry)) 0 (replyOf request) (now (buf .exit)) r ⌝ }
+{
+    match request {
         Request::Nothing => 0,
         Request::Root(x) => answers::tell_number(buf, root::root(x)),
         Request::C(xi) => answers::tell_number(buf, series::c(xi)),
@@ -21,24 +49,18 @@ pub fn reply(line: &[u8], buf: &mut [u8]) -> usize
             above,
             k,
         } => answers::tell_trial(buf, iterator::trial(asked, lo, hi, below, above, k)),
-        Request::Kepler { mu, state, time } => answers::tell_advance(
-            buf,
-            solve::advance(mu, state, time),
-        ),
-        Request::Lambert {
-            mu,
-            first,
-            second,
-            time,
-            way,
-        } => answers::tell_transfer(buf, solve::transfer_velocity(mu, first, second, way, time)),
-        Request::Theta {
-            mu,
-            state,
-            sine,
-            cosine,
-        } => answers::tell_time(buf, theta::time_theta(mu, state, sine, cosine)),
-        Request::Apsides { mu, state } => answers::tell_apsides(buf, apsides::periapo(mu, state)),
-        Request::Unread(w) => answers::unread(buf, w),
+        Request::Solve(x) => solved(buf, x),
+        Request::Unread(w) => columns::unread(buf, w),
     }
+}
+
+// The reply to a line, newline and all, made at the front of a lent buffer: its length, which is 0 where nothing is
+// asked, or 15 for a buffer of under 512 bytes, which stays as it was.
+pub fn reply(line: &[u8], buf: &mut [u8]) -> Made
+    ensures { λ r. ⌜ InFront room (replyText (now (line .entry))) (now (buf .entry)) (now (buf .exit)) r ⌝ }
+{
+    if buf.len() < 512 {
+        return Made::Refused(15);
+    }
+    Made::Line(answered(buf, requests::read(line)))
 }

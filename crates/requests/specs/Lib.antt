@@ -1,2 +1,1 @@
-pub mod Wants
-pub mod Lines
+pub mod Requests

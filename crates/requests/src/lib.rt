@@ -1,6 +1,158 @@
 // A line of the desk, read: which routine it asks, and with what.
-mod line;
-mod wants;
+ghost use mathlib.Core.Path.{_≡_};
+ghost use Rattle.words.specs.Words.{wordAt};
+ghost use Rattle.forms.specs.Forms.{readBy};
+ghost use Rattle.solves.specs.Solves.{solveForm};
+ghost use Rattle.requests.specs.Requests.{rootForm, cForm, sForm, trialForm, trialBetween, trialJudged, trialCounted};
+ghost use Rattle.requests.specs.Requests.{routines, isComment, requestOf};
+use forms::Ends;
+use forms::Request;
+use forms::Sides;
+use iterator::Judgement;
+use numerals::Number;
+use numerals::Whole;
+use solves::Given;
 
-pub use line::Request;
-pub use line::read;
+fn root(line: &[u8]) -> Request
+    ensures { λ r. ⌜ r ≡ readBy rootForm 1 (now (line .entry)) ⌝ }
+{
+    let mut x = [0.0; 1];
+    let w = forms::only_numbers(line, 1, &mut x);
+    if w != 0 {
+        return Request::Unread(w);
+    }
+    Request::Root(x[0])
+}
+
+fn c(line: &[u8]) -> Request
+    ensures { λ r. ⌜ r ≡ readBy cForm 1 (now (line .entry)) ⌝ }
+{
+    let mut x = [0.0; 1];
+    let w = forms::only_numbers(line, 1, &mut x);
+    if w != 0 {
+        return Request::Unread(w);
+    }
+    Request::C(x[0])
+}
+
+fn s(line: &[u8]) -> Request
+    ensures { λ r. ⌜ r ≡ readBy sForm 1 (now (line .entry)) ⌝ }
+{
+    let mut x = [0.0; 1];
+    let w = forms::only_numbers(line, 1, &mut x);
+    if w != 0 {
+        return Request::Unread(w);
+    }
+    Request::S(x[0])
+}
+
+// The trial's line, part by part.
+fn trial(line: &[u8]) -> Request
+    ensures { λ r. ⌜ r ≡ readBy trialForm 1 (now (line .entry)) ⌝ }
+{
+    match numerals::read_number(words::word(line, 1)) {
+        Number::Read(asked) => trial_between(line, asked),
+        Number::Unread => Request::Unread(2),
+    }
+}
+
+fn trial_between(line: &[u8], asked: f64) -> Request
+    ensures { λ r. ⌜ r ≡ readBy (trialBetween asked) 2 (now (line .entry)) ⌝ }
+{
+    match forms::ends_at(line, 2) {
+        Ends::Read(lo, hi) => trial_judged(line, asked, lo, hi),
+        Ends::Unread(w) => Request::Unread(w),
+    }
+}
+
+fn trial_judged(line: &[u8], asked: f64, lo: i64, hi: i64) -> Request
+    ensures { λ r. ⌜ r ≡ readBy (trialJudged asked lo hi) 4 (now (line .entry)) ⌝ }
+{
+    match forms::sides_at(line, 4) {
+        Sides::Read(below, above) => trial_counted(line, asked, lo, hi, below, above),
+        Sides::Unread(w) => Request::Unread(w),
+    }
+}
+
+fn trial_counted(
+    line: &[u8],
+    asked: f64,
+    lo: i64,
+    hi: i64,
+    below: Judgement,
+    above: Judgement,
+) -> Request
+    ensures { λ r. ⌜ r ≡ readBy (trialCounted asked lo hi below above) 6 (now (line .entry)) ⌝ }
+{
+    match numerals::read_whole(words::word(line, 6)) {
+        Whole::Read(k) => {
+            if forms::is_end(line, 7) {
+                return Request::Trial {
+                    asked,
+                    lo,
+                    hi,
+                    below,
+                    above,
+                    k,
+                };
+            }
+            Request::Unread(8)
+        }
+        Whole::Unread => Request::Unread(7),
+    }
+}
+
+// A solve, by its name.
+fn solve(line: &[u8]) -> Request
+    ensures { λ r. ⌜ r ≡ readBy (solveForm Request.Solve) 0 (now (line .entry)) ⌝ }
+{
+    match solves::read(line, 0) {
+        Given::Read(x) => Request::Solve(x),
+        Given::Unread(w) => Request::Unread(w),
+    }
+}
+
+fn routine(name: &[u8], line: &[u8]) -> Request
+    requires { ⌜ now name ≡ wordAt 0 (now line) ⌝ }
+    ensures { λ r. ⌜ r ≡ readBy routines 0 (now (line .entry)) ⌝ }
+{
+    if words::is_word(name, b"root") {
+        return root(line);
+    }
+    if words::is_word(name, b"c") {
+        return c(line);
+    }
+    if words::is_word(name, b"s") {
+        return s(line);
+    }
+    if words::is_word(name, b"trial") {
+        return trial(line);
+    }
+    solve(line)
+}
+
+fn is_comment(line: &[u8]) -> bool
+    ensures { λ r. ⌜ r ≡ isComment (now (line .entry)) ⌝ }
+{
+    if line.len() == 0 {
+        return false;
+    }
+    line[0] == b'#'
+}
+
+// What a line asks; the line is without its newline.
+pub fn read(line: &[u8]) -> Request
+    ensures { λ x. ⌜ x ≡ requestOf (now (line .entry)) ⌝ }
+{
+    if is_comment(line) {
+        return Request::Nothing;
+    }
+    if line.len() > 1000 {
+        return Request::Unread(0);
+    }
+    let name = words::word(line, 0);
+    if name.len() == 0 {
+        return Request::Nothing;
+    }
+    routine(name, line)
+}

@@ -2,3 +2,5 @@ pub mod Stand
 pub mod Puts
 pub mod Decimals
 pub mod Signs
+pub mod Fronts
+pub mod Lays

@@ -1,2 +1,3 @@
 pub mod Sign
 pub mod Text
+pub mod Pieces

@@ -8,6 +8,8 @@ use mathlib.Core.Bool.{cond}
 use lib.ListN.{length, take, drop}
 use lib.Dec.{ltb}
 use lib.IntN.{ℤ, pos, negsuc}
+use Rattle.text.specs.declared.Made.{Made}
+use Rattle.text.specs.declared.Made.the-variants.{Line, Refused}
 
 -- the codes of a text, as it is written
 abbrev pub ascii : String → List ℕ
@@ -33,6 +35,16 @@ pub record Put (d : List ℕ) (at : ℕ) (x : List ℕ) (e : List ℕ) (r : ℕ)
   pub fits : IfFits d at x e r
   pub lacks : length d < at + length x → (e ≡ d) × (r ≡ nowhere)
 
+-- the line x made in the buffer d, which makes e, and r is answered: the line stands at the front and the bytes past it
+-- as they were; if d has less than the room it stays as it was, and the answer is 15
+pub record InFront (room : ℕ) (x d e : List ℕ) (r : Made) : Type 0 where
+  pub answer : r ≡ cond (ltb (length d) room) (Refused 15) (Line (length x))
+  pub buffer : e ≡ cond (ltb (length d) room) d (x ++ drop (length x) d)
+
+-- `0` to `9`, `A` to `F`
+unfoldable pub digitText : ℕ → ℕ
+digitText d = cond (ltb d 10) (48 + d) (55 + d)
+
 -- the decimal digits of n, at most the last `left` of them
 unfoldable pub digits : ℕ → ℕ → List ℕ
 digits zero n = []
@@ -45,4 +57,4 @@ decimal n = digits 20 n
 -- z in decimal, with a minus in front where it is negative
 abbrev pub signedText : ℤ → List ℕ
 signedText (pos n) = decimal n
-signedText (negsuc n) = 45 ∷ decimal (n + 1)
+signedText (negsuc n) = ascii "-" ++ decimal (n + 1)

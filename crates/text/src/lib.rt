@@ -4,14 +4,20 @@ mod sign;
 
 pub use sign::is_negative;
 pub use sign::magnitude;
-ghost use Prim.Native.Nat.{_+_, _≤_, _<_};
+ghost use Prim.Native.Nat.{_+_, _%_, _≤_, _<_};
 ghost use mathlib.Core.Path.{_≡_};
 ghost use mathlib.Core.List.{[], _∷_};
 ghost use lib.ListN.{length};
 ghost use lib.Dec.{leb};
-ghost use Rattle.text.specs.Text.{Stands, Put, digits, decimal, signedText};
+ghost use Rattle.text.specs.Text.{Stands, Put, digitText, digits, decimal, signedText};
 
 pub const NOWHERE: usize = 0xffff_ffff_ffff_ffff;
+
+// How long a line at the front of a buffer is, or the number of the refusal.
+pub enum Made {
+    Line(usize),
+    Refused(u32),
+}
 
 pub fn byte(buf: &mut [u8], at: usize, b: u8) -> usize
     ensures { λ r. ⌜ Put (now (buf .entry)) at (b ∷ []) (now (buf .exit)) r ⌝ }
@@ -119,9 +125,13 @@ fn put_digits(buf: &mut [u8], at: usize, n: u64, left: usize) -> usize
     put_byte(buf, e, digit(n % 10))
 }
 
-fn digit(d: u64) -> u8
-    requires { ⌜ d < 10 ⌝ }
-    ensures { λ r. ⌜ r ≡ 48 + d ⌝ }
+// The last digit of n to base 16.
+pub fn digit(n: u64) -> u8
+    ensures { λ r. ⌜ r ≡ digitText (n % 16) ⌝ }
 {
-    48 + d as u8
+    let d = (n % 16) as u8;
+    if d < 10 {
+        return 48 + d;
+    }
+    55 + d
 }

@@ -1,6 +1,2 @@
 pub mod Searches
-pub mod Values
-pub mod Signs
-pub mod Decimals
-pub mod Nearest
 pub mod Examples

@@ -7,11 +7,11 @@ use mathlib.Core.Path.{_≡_, refl, sym, ap, _∙_}
 use mathlib.Core.List.{List, [], _∷_, _++_, append-nil, append-assoc}
 use mathlib.Core.Bool.{Bool, true, false, cond, _&&_, true≢false}
 use lib.ListN.{length, getD, take, drop, length-drop, drop-of-length-le}
-use lib.Seq.{drop-cons, take-suc, getD-drop}
+use lib.Seq.{drop-cons, take-suc, take-all, getD-drop}
 use lib.Dec.{eqb}
-use borrow.Author.Tests.{eq-eqb, ne-eqb, eqb-true, eqb-false}
-use Rattle.words.specs.declared.find.Byte.{Byte}
-use Rattle.words.specs.declared.find.Byte.the-variants.{Blank, NotBlank}
+use borrow.Author.Tests.{eq-eqb, ne-eqb, eqb-true}
+use Rattle.words.specs.declared.Byte.{Byte}
+use Rattle.words.specs.declared.Byte.the-variants.{Blank, NotBlank}
 use Rattle.words.specs.Words.{isOf, upTo, from, fromWord, wordAt, startsWith, isWord}
 use Rattle.words.specs.Found.{Found}
 
@@ -176,3 +176,11 @@ unfolding isWord
 same-word s t e =
     let p = both (eqb (length s) (length t)) (startsWith s t) e in
     alike s t (eqb-true (length s) (length t) (p .0)) (p .1)
+
+-- what `&s[k..]` lends
+pub rest-of : (k : ℕ) (s : List ℕ) → take (length s - k) (drop k s) ≡ drop k s
+rest-of k s = take-all (length s - k) (drop k s) (simp length-drop (omega arith))
+
+pub nil : (s : List ℕ) → length s ≡ 0 → s ≡ []
+nil [] h = refl
+nil (b ∷ s) h = let z : ⊥ = omega arith in absurd z

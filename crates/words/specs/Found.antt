@@ -3,7 +3,7 @@ use Prim.Native.Nat.{ℕ, _-_, _≤_}
 use mathlib.Core.Path.{_≡_}
 use mathlib.Core.List.{List}
 use lib.ListN.{length, take, drop}
-use Rattle.words.specs.declared.find.Byte.{Byte}
+use Rattle.words.specs.declared.Byte.{Byte}
 use Rattle.words.specs.Words.{upTo, from}
 
 -- r is the place of the first such byte of s at or behind the place at

@@ -4,8 +4,8 @@ use mathlib.Core.Bool.{Bool, true, false, not, _&&_, _||_, cond}
 use mathlib.Core.List.{List, [], _∷_}
 use lib.ListN.{length}
 use lib.Dec.{eqb}
-use Rattle.words.specs.declared.find.Byte.{Byte}
-use Rattle.words.specs.declared.find.Byte.the-variants.{Blank, NotBlank, Point}
+use Rattle.words.specs.declared.Byte.{Byte}
+use Rattle.words.specs.declared.Byte.the-variants.{Blank, NotBlank, Point}
 
 -- a space, a tab, a carriage return
 abbrev pub blank : ℕ → Bool

@@ -1,5 +1,4 @@
--- `take_some`: the part lent is within the whole.
-use native.Mathlib.Omega.{arith}
+-- The part lent is within the whole. Assumes nothing.
 use mathlib.Core.Path.{sym}
 use lib.Seq.{length-take-le}
 use borrow.Author.Needs.{needs}
@@ -25,7 +24,7 @@ slice-reshare-prefix-answer : tie.Need-slice-reshare-prefix-answer
 slice-reshare-prefix-answer c = search needs
 
 slice-aggregate-answer : tie.Need-slice-aggregate-answer
-slice-aggregate-answer c = sym (length-take-le _ _ (omega arith))
+slice-aggregate-answer c = sym (length-take-le _ _ (c .before .before .before .before .before .before .before .before .pre))
 
 answer-requires : tie.Need-answer-requires
 answer-requires c κs = search needs
@@ -38,9 +37,6 @@ returns-2 c = search needs
 
 returns-3 : tie.Need-returns-3
 returns-3 c = search needs
-
-returns-4 : tie.Need-returns-4
-returns-4 c = search needs
 
 slice-aggregate-count : tie.Need-slice-aggregate-count
 slice-aggregate-count c = search needs
@@ -60,8 +56,8 @@ feed-requires c κs = search needs
 same-length-2 : tie.Need-same-length-2
 same-length-2 c = search needs
 
-returns-5 : tie.Need-returns-5
-returns-5 c = search needs
+returns-4 : tie.Need-returns-4
+returns-4 c = c .before .before .feed .ensures .0
 
 pub take-some-spec : {M : Type 1} → statement M
 take-some-spec =
@@ -78,11 +74,10 @@ take-some-spec =
     same-length
     returns-2
     returns-3
-    returns-4
     slice-aggregate-count
     count-requires
     array-share-prefix-input
     slice-aggregate-feed
     feed-requires
     same-length-2
-    returns-5)
+    returns-4)

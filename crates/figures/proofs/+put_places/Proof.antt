@@ -1,19 +1,18 @@
 -- `put_places`: the last digit stands behind the others, by recursion on their number.
 use Prim.Native.Nat.{ℕ, _<_, _-_, _/_}
-use native.Mathlib.Nat.{mod-lt}
 use native.Mathlib.Omega.{arith}
 use mathlib.Core.Path.{_∙_}
 use denote.Ref.{now}
 use borrow.Fn.Kinds.{In}
 use borrow.Fn.PlainCycle.{Measures, is, falls, and}
 use Rattle.text.proofs.Stand.{then, none, same-size}
-use Rattle.figures.proofs.Places.{places-none, places-more, places-length, nonzero}
+use Rattle.figures.proofs.Places.{places-none, places-more, places-length, last-digit, nonzero}
 use Rattle.figures.proofs.+put_places.{statement}
 use Rattle.figures.proofs.+put_places.Tie.{close}
 use Rattle.figures.proofs.put_places.Reads as put-places
 use Rattle.figures.proofs.put_places.Kinds as put-places-kinds
 use Rattle.figures.proofs.+put_places.Lts-put_places as put-places-lts
-use Rattle.figures.proofs.digit.Reads as digit-reads
+use Rattle.text.proofs.digit.Reads as digit-reads
 use Rattle.text.proofs.byte.Reads as byte-reads
 
 abbrev μ-put-places : Measures 1 put-places-kinds.ps ℕ
@@ -89,7 +88,7 @@ put-places-digit-requires : (t : ℕ) → put-places-lts.Need-digit-requires (
   byte-reads.Asked,
   byte-reads.Learnt,
 ) (put-places-at t) put-places.Post
-put-places-digit-requires t c κs = omega (arith, mod-lt (c .before .before .before .before .before .before .before .args .n) (c .before .before .before .before .before .before .before .pre .1 .1), c .before .before .before .before .before .before .before .pre .1 .2)
+put-places-digit-requires t c κs = tt
 
 put-places-byte-requires : (t : ℕ) → put-places-lts.Need-byte-requires (
   put-places-below t,
@@ -124,7 +123,7 @@ put-places-returns-2 t c =
     let p = c .before .before .before .before .before .before .before .put-places .ensures in
     let z = nonzero _ (c .before .before .before .before .before .before .before .before .before .if1 .left) in
     let l = places-length (a .base) (a .k - 1) (a .n / a .base) in
-    rw (places-more (a .base) (a .k) (a .n) (c .before .before .before .before .before .before .before .before .before .if1 .left), ← c .before .before .before .digit .ensures)
+    rw (places-more (a .base) (a .k) (a .n) (c .before .before .before .before .before .before .before .before .before .if1 .left), ← last-digit (a .base) (a .n) (c .before .before .before .before .before .before .before .before .before .before .before .pre .1 .1) (c .before .before .before .before .before .before .before .before .before .before .before .pre .1 .2), ← c .before .before .before .digit .ensures)
     (then p (c .before .before .byte .ensures .fits (omega (arith, p .next, same-size p, c .before .before .before .before .before .before .before .before .before .before .before .pre .1 .0))))
 
 pub +put-places-spec : {M : Type 1} → statement M

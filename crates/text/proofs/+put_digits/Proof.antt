@@ -4,8 +4,8 @@ use mathlib.Core.Path.{ap, _∙_}
 use denote.Ref.{now}
 use lib.ListN.{length}
 use Rattle.text.proofs.Stand.{then, none, same-size}
-use Rattle.text.proofs.Decimals.{nonzero, digits-none, digits-one, digits-more, digits-longer}
-use Prim.Native.Nat.{ℕ, _<_}
+use Rattle.text.proofs.Decimals.{nonzero, decimal-digit, digits-none, digits-one, digits-more, digits-longer}
+use Prim.Native.Nat.{ℕ, _%_, _<_}
 use borrow.Fn.Kinds.{In}
 use borrow.Fn.PlainCycle.{Measures, is, falls, and}
 use Rattle.text.proofs.put_digits.Reads as put-digits
@@ -48,7 +48,7 @@ put-digits-digit-requires : (t : ℕ) → put-digits-lts.Need-digit-requires (
   put-digits-below t,
   put-digits.Post,
 ) (put-digits-at t) put-digits.Post
-put-digits-digit-requires t c κs = c .before .if2 .taken
+put-digits-digit-requires t c κs = tt
 
 put-digits-put-byte-requires : (t : ℕ) → put-digits-lts.Need-put-byte-requires (
   digit-reads.Asked,
@@ -83,7 +83,7 @@ put-digits-returns-2 : (t : ℕ) → put-digits-lts.Need-returns-2 (
 put-digits-returns-2 t c =
     let a = c .before .before .before .before .before .before .before .before .args in
     let e = digits-one (a .left) (a .n) (c .before .before .before .before .before .before .if1 .left) (c .before .before .before .before .before .if2 .taken) in
-    rw (e, ← c .before .before .before .digit .ensures) (c .before .before .put-byte .ensures)
+    rw (e, ← decimal-digit (a .n) (c .before .before .before .before .before .if2 .taken), ← c .before .before .before .digit .ensures) (c .before .before .put-byte .ensures)
 
 put-digits-sub-put-digits : (t : ℕ) → put-digits-lts.Need-sub-put-digits (
   digit-reads.Asked,
@@ -116,7 +116,7 @@ put-digits-digit-requires-2 : (t : ℕ) → put-digits-lts.Need-digit-requires-2
   put-digits-below t,
   put-digits.Post,
 ) (put-digits-at t) put-digits.Post
-put-digits-digit-requires-2 t c κs = omega arith
+put-digits-digit-requires-2 t c κs = tt
 
 put-digits-put-byte-requires-2 : (t : ℕ) → put-digits-lts.Need-put-byte-requires-2 (
   digit-reads.Asked,
@@ -153,7 +153,7 @@ put-digits-returns-3 : (t : ℕ) → put-digits-lts.Need-returns-3 (
 put-digits-returns-3 t c =
     let a = c .before .before .before .before .before .before .before .before .before .before .before .before .args in
     let e = digits-more (a .left) (a .n) (c .before .before .before .before .before .before .before .before .before .before .if1 .left) (c .before .before .before .before .before .before .before .before .before .if2 .left) in
-    rw (e, ← c .before .before .before .digit2 .ensures) (then (c .before .before .before .before .before .before .before .put-digits .ensures) (c .before .before .put-byte2 .ensures))
+    rw (e, ← decimal-digit (a .n % 10) (omega arith), ← c .before .before .before .digit2 .ensures) (then (c .before .before .before .before .before .before .before .put-digits .ensures) (c .before .before .put-byte2 .ensures))
 
 pub +put-digits-spec : {M : Type 1} → statement M
 +put-digits-spec = close μ-put-digits λ t. put-digits-lts.spec (

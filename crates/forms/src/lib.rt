@@ -1,0 +1,60 @@
+// What the desk can be asked, and the parts of a line: each word is read once.
+mod judgement;
+mod parts;
+
+use iterator::Judgement;
+use lambert::Way;
+pub use parts::Ends;
+pub use parts::Sides;
+pub use parts::ends_at;
+pub use parts::is_end;
+pub use parts::numbers;
+pub use parts::only_numbers;
+pub use parts::sides_at;
+use vector::State;
+use vector::Vector;
+
+// What a solve is given.
+pub enum Solve {
+    Kepler {
+        mu: f64,
+        state: State,
+        time: f64,
+    },
+    Lambert {
+        mu: f64,
+        first: Vector,
+        second: Vector,
+        time: f64,
+        way: Way,
+    },
+    Theta {
+        mu: f64,
+        state: State,
+        sine: f64,
+        cosine: f64,
+    },
+    Apsides {
+        mu: f64,
+        state: State,
+    },
+}
+
+// What a line asks. A line with no word and a comment ask nothing; a line that cannot be read tells its first such
+// word, or 0 for a line of over 1,000 bytes.
+pub enum Request {
+    Nothing,
+    Root(f64),
+    C(f64),
+    S(f64),
+    Trial {
+        asked: f64,
+        lo: i64,
+        hi: i64,
+        below: Judgement,
+        above: Judgement,
+        k: u64,
+    },
+    Solve(Solve),
+    Unread(u64),
+}

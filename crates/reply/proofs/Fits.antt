@@ -1,0 +1,42 @@
+-- Every reply fits its room, and a line is what its pieces are. Assumes nothing.
+use Prim.Native.Nat.{ℕ, _≤_}
+use mathlib.Core.Path.{_≡_, subst}
+use mathlib.Core.List.{List}
+use lib.ListN.{length}
+use lib.Dec.{lit≤}
+use Rattle.text.specs.Pieces.{concat, Laid}
+use Rattle.root.specs.Root.{rootAnswer}
+use Rattle.series.specs.Series.{cAnswer, sAnswer}
+use Rattle.iterator.specs.Single.{trialOf}
+use Rattle.solve.specs.Answers.{advanceOf, transferVelocityOf}
+use Rattle.theta.specs.Theta.{thetaOf}
+use Rattle.apsides.specs.Apsides.{apsidesOf}
+use Rattle.forms.specs.declared.Request.{Request}
+use Rattle.forms.specs.declared.Request.the-variants.{Nothing, Root, C, S, Trial, Unread}
+use Rattle.forms.specs.declared.Request.the-variants as Q
+use Rattle.forms.specs.declared.Solve.{Solve}
+use Rattle.forms.specs.declared.Solve.the-variants.{Kepler, Lambert, Theta, Apsides}
+use Rattle.columns.proofs.RowLaws.{unread-fits}
+use Rattle.answers.proofs.Lengths.{answer-fits, tried-fits, timed-fits, apsides-fits}
+use Rattle.solutions.proofs.Lengths.{advanced-fits, transferred-fits}
+use Rattle.reply.specs.Replies.{room, solvedOf, replyOf}
+
+solved-fits : (x : Solve) → length (concat (solvedOf x)) ≤ room
+unfolding solvedOf
+solved-fits (Kepler mu state time) = advanced-fits (advanceOf mu state time)
+solved-fits (Lambert mu first second time way) = transferred-fits (transferVelocityOf mu first second way time)
+solved-fits (Theta mu state sine cosine) = timed-fits (thetaOf mu state sine cosine)
+solved-fits (Apsides mu state) = apsides-fits (apsidesOf mu state)
+
+pub reply-fits : (q : Request) → length (concat (replyOf q)) ≤ room
+unfolding concat
+reply-fits Nothing = lit≤ tt
+reply-fits (Root x) = answer-fits (rootAnswer x)
+reply-fits (C xi) = answer-fits (cAnswer xi)
+reply-fits (S xi) = answer-fits (sAnswer xi)
+reply-fits (Trial asked lo hi below above k) = tried-fits (trialOf asked lo hi below above k)
+reply-fits (Q.Solve x) = solved-fits x
+reply-fits (Unread w) = unread-fits w
+
+pub laid-as : {d : List ℕ} {at : ℕ} {xs ys : List (List ℕ)} {e : List ℕ} {r : ℕ} → xs ≡ ys → Laid d at xs e r → Laid d at ys e r
+laid-as {d} {at} {xs} {ys} {e} {r} p l = subst (λ (zs : List (List ℕ)). Laid d at zs e r) p l

@@ -1,0 +1,87 @@
+-- Every line fits 512 bytes. Assumes nothing.
+use Prim.Native.Nat.{ℕ, _+_, _≤_}
+use native.Mathlib.Omega.{arith}
+use mathlib.Core.List.{List, [], _∷_}
+use lib.ListN.{length, length-append}
+use lib.Dec.{lit≤}
+use lib.IntN.{ℤ, pos, negsuc}
+use lib.Ieee.{Float}
+use Rattle.text.specs.Text.{ascii, signedText}
+use Rattle.text.specs.Pieces.{concat}
+use Rattle.text.proofs.Decimals.{at-most}
+use Rattle.text.proofs.Lays.{concat-append}
+use Rattle.columns.proofs.RowLaws.{end-short, labelled-short, refused-fits}
+use Rattle.vector.specs.declared.Vector.{Vector}
+use Rattle.vector.specs.declared.State.{State}
+use Rattle.solve.specs.Answers.{advancedNumber, transferredNumber}
+use Rattle.solve.specs.declared.Grade.{Grade}
+use Rattle.solve.specs.declared.Grade.the-variants.{Closed, Fair, Rough}
+use Rattle.solve.specs.declared.Solution.{Solution}
+use Rattle.solve.specs.declared.Advanced.{Advanced}
+use Rattle.solve.specs.declared.Advanced.the-variants as Ad
+use Rattle.solve.specs.declared.Transferred.{Transferred}
+use Rattle.solve.specs.declared.Transferred.the-variants as Tr
+use Rattle.solutions.specs.Solutions.{gradeText, countPieces, timesPieces, donePieces, orbitPieces, transferPieces, advancedPieces, transferredPieces}
+
+-- the length of pieces
+abbrev size : List (List ℕ) → ℕ
+size xs = length (concat xs)
+
+signed-short : (z : ℤ) → length (signedText z) ≤ 21
+signed-short (pos n) = omega (arith, at-most 20 n)
+signed-short (negsuc n) = omega (arith, at-most 20 (n + 1))
+
+grade-short : (g : Grade) → length (gradeText g) ≤ 6
+grade-short Closed = lit≤ tt
+grade-short Fair = lit≤ tt
+grade-short Rough = lit≤ tt
+
+count-short : (n : ℤ) (k : ℕ) → size (countPieces n k) ≤ 55
+unfolding concat countPieces
+count-short n k = simp length-append (omega (arith, signed-short n, at-most 20 k))
+
+times-short : (t err : Float) → size (timesPieces t err) ≤ 53
+unfolding timesPieces
+times-short t err = simp (concat-append, length-append) (omega (arith, labelled-short (ascii " time") (t ∷ []), labelled-short (ascii " err") (err ∷ [])))
+
+grade-and-times : (g : Grade) (t err : Float) → size (ascii " grade " ∷ gradeText g ∷ timesPieces t err) ≤ 66
+unfolding concat
+grade-and-times g t err = simp length-append (omega (arith, grade-short g, times-short t err))
+
+done-short : (x : Solution) → size (donePieces x) ≤ 121
+unfolding donePieces
+done-short x = simp (concat-append, length-append) (omega (arith, count-short (x .n) (x .count), grade-and-times (x .grade) (x .t) (x .err)))
+
+orbit-short : (s : State) (x : Solution) → size (orbitPieces s x) ≤ 512
+unfolding orbitPieces
+orbit-short s x =
+    simp (concat-append, length-append) (
+    omega (
+      arith,
+      done-short x,
+      labelled-short (ascii " r") (s .rx ∷ s .ry ∷ s .rz ∷ []),
+      labelled-short (ascii " v") (s .vx ∷ s .vy ∷ s .vz ∷ []),
+      end-short (x .t ∷ x .err ∷ s .rx ∷ s .ry ∷ s .rz ∷ s .vx ∷ s .vy ∷ s .vz ∷ []),
+    )
+    )
+
+transfer-short : (v : Vector) (x : Solution) → size (transferPieces v x) ≤ 512
+unfolding transferPieces
+transfer-short v x =
+    simp (concat-append, length-append) (
+    omega (arith, done-short x, labelled-short (ascii " v") (v .x ∷ v .y ∷ v .z ∷ []), end-short (x .t ∷ x .err ∷ v .x ∷ v .y ∷ v .z ∷ []))
+    )
+
+-- ---- each answer
+
+pub advanced-fits : (a : Advanced) → size (advancedPieces a) ≤ 512
+advanced-fits (Ad.Found s x) = orbit-short s x
+advanced-fits Ad.TooLong = refused-fits (advancedNumber Ad.TooLong)
+advanced-fits Ad.TooShort = refused-fits (advancedNumber Ad.TooShort)
+advanced-fits (Ad.Refused n) = refused-fits (advancedNumber (Ad.Refused n))
+
+pub transferred-fits : (a : Transferred) → size (transferredPieces a) ≤ 512
+transferred-fits (Tr.Found v x) = transfer-short v x
+transferred-fits Tr.TooLong = refused-fits (transferredNumber Tr.TooLong)
+transferred-fits Tr.TooShort = refused-fits (transferredNumber Tr.TooShort)
+transferred-fits (Tr.Refused n) = refused-fits (transferredNumber (Tr.Refused n))

@@ -1,0 +1,40 @@
+-- What a list of numbers gives a solve. Assumes nothing.
+use mathlib.Core.List.{List}
+use lib.ListN.{getD}
+use lib.Ieee.{Float, nan}
+use Rattle.vector.specs.declared.State.{State}
+use Rattle.lambert.specs.declared.Way.{Way}
+use Rattle.forms.specs.declared.Request.{Request}
+use Rattle.forms.specs.declared.Solve.{Solve}
+use Rattle.forms.specs.declared.Solve.the-variants.{Kepler, Lambert, Theta, Apsides}
+use Rattle.forms.specs.Forms.{Form, end}
+use Rattle.solves.specs.Solves.{way}
+
+abbrev stateIn : List Float → State
+stateIn xs = record {
+  rx = getD xs 1 nan;
+  ry = getD xs 2 nan;
+  rz = getD xs 3 nan;
+  vx = getD xs 4 nan;
+  vy = getD xs 5 nan;
+  vz = getD xs 6 nan;
+}
+
+abbrev pub keplerOf : List Float → Solve
+keplerOf xs = Kepler (getD xs 0 nan) (stateIn xs) (getD xs 7 nan)
+
+abbrev lambertOf : List Float → Way → Solve
+lambertOf xs w =
+    Lambert (getD xs 0 nan) (record { x = getD xs 1 nan; y = getD xs 2 nan; z = getD xs 3 nan }) (record { x = getD xs 4 nan; y = getD xs 5 nan; z = getD xs 6 nan }) (getD xs 7 nan) w
+
+abbrev pub lambertEnd : (Solve → Request) → List Float → Way → Form
+lambertEnd ask xs w = end (ask (lambertOf xs w))
+
+abbrev pub lambertGo : (Solve → Request) → List Float → Form
+lambertGo ask xs = way (lambertEnd ask xs)
+
+abbrev pub thetaOf : List Float → Solve
+thetaOf xs = Theta (getD xs 0 nan) (stateIn xs) (getD xs 7 nan) (getD xs 8 nan)
+
+abbrev pub apsidesOf : List Float → Solve
+apsidesOf xs = Apsides (getD xs 0 nan) (stateIn xs)

@@ -1,0 +1,18 @@
+-- A line at the front of a buffer that has the room, and a shorter buffer. Assumes nothing.
+use Prim.Native.Nat.{ℕ, _≤_, _<_}
+use native.Mathlib.Omega.{arith}
+use mathlib.Core.Path.{refl, ap}
+use mathlib.Core.List.{List}
+use lib.ListN.{length}
+use borrow.Author.Tests.{lt-ltb, le-ltb}
+use Rattle.text.specs.declared.Made.the-variants.{Line, Refused}
+use Rattle.text.specs.Text.{IfFits, InFront}
+use Rattle.text.proofs.Stand.{at-front}
+
+pub too-short : (room : ℕ) (x d : List ℕ) → length d < room → InFront room x d d (Refused 15)
+too-short room x d h = record { answer = rw (lt-ltb _ _ h) refl; buffer = rw (lt-ltb _ _ h) refl }
+
+pub in-front : {room : ℕ} {x d e : List ℕ} {r : ℕ} → room ≤ length d → length x ≤ room → IfFits d 0 x e r → InFront room x d e (Line r)
+in-front h l p =
+    let f = at-front (p (omega arith)) in
+    record { answer = rw (le-ltb _ _ h) (ap Line (f .0)); buffer = rw (le-ltb _ _ h) (f .1) }
