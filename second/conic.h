@@ -20,9 +20,13 @@ typedef struct {
     vector r, v; /* Lambert answers v alone */
 } solution;
 
+/* The way round of a transfer; or its normal, and then no way round is read. */
+typedef struct { enum { SHORT_WAY, LONG_WAY, NORMAL_GIVEN } as; vector normal; } way;
+
 typedef struct { int refused; bool closed; double near, far; } apses;
 
 solution kepler(double mu, state from, double time);
+solution transfer_velocity(double mu, vector from, vector to, double time, way way);
 solution lambert(double mu, vector from, vector to, double time, bool long_way);
 number time_theta(double mu, state from, double sine, double cosine);
 apses apsides(double mu, state at);

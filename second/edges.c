@@ -79,6 +79,21 @@ const char *const edges[] = {
     "lambert x41B8A916F098DCB5 xC111C6EBAD4EB384 x4130935B953E230D xC12AFDDABA529AA8 xC13F3640B2B812DB"
     " x41338611B67275BB xC1323A15A57141AA x41AF6768DAF00000 short",
 
+    /* T-13, in line to the bit: sine 0 of either sign, either normal; a normal across the plane, with den below 0 */
+    "lambert 4294967296 4194304 0 0 -4194304 0 0 411774 normal 0 0 1",
+    "lambert 4294967296 4194304 0 0 -4194304 -0 -0 411774 normal -0 -0 -1",
+    "lambert 4294967296 4194304 0 0 -4194304 4096 0 411774 normal 0 0 -1",
+    "lambert 4294967296 4194304 0 0 6291456 8388608 0 411774 normal 1 0 0",
+    "lambert 4294967296 4194304 0 0 6291456 8388608 0 411774 normal -1 -0 -0",
+    /* 1 − cosθ = 2^-20, then 6; |normal| = 1 ± 2^-40, and one beyond */
+    "lambert 4294967296 4194304 0 0 4194304 x40B6A09F7603CE2A 0 100000 normal 0 0 1",
+    "lambert 4294967296 4194304 0 0 4194304 x40B6A09F7603CE29 0 100000 normal 0 0 1",
+    "lambert 4294967296 4194304 0 0 -4194304 0 0 400000 normal 0 0 x3FF0000000001000",
+    "lambert 4294967296 4194304 0 0 -4194304 0 0 400000 normal 0 0 x3FEFFFFFFFFFE000",
+    "lambert 4294967296 4194304 0 0 -4194304 0 0 400000 normal 0 0 x3FF0000000001001",
+    "lambert 4294967296 4194304 0 0 -4194304 0 0 400000 normal 0 0 x3FEFFFFFFFFFDFFF",
+    "lambert 1 4194304 0 0 -4194304 0 0 400000 normal 0 x7FF0000000000000 0",
+
     /* Time-Theta: (cos²+sin²)−1 = 2^-40; 1−cos = 2^-20, then 6 */
     "theta 4294967296 4194304 0 0 0 32 0 x3EB0000000000000 -1",
     "theta 4294967296 4194304 0 0 0 32 0 x3F56A09E0BFCC17E x3FEFFFFE00000000",

@@ -94,6 +94,51 @@ static void some_trial(request *q)
     q->words[5].count = one_in(8) ? 0 - below(3) : 1 + below(74);
 }
 
+/* The orbit's own normal or its opposite, mostly; or one across, of a length about its limit, or in the plane. */
+static vector some_normal(const orbit *o)
+{
+    vector upright = cross(o->at.r, o->at.v), normal = over(upright, length(upright));
+    if (!finite_vector(normal) || one_in(8))
+        normal = direction();
+    if (one_in(8))
+        normal = over(o->at.r, length(o->at.r));
+    if (one_in(4))
+        normal = negated(normal);
+    return one_in(8) ? times(1 + either_sign(0x1p-40 * uniform(0.99, 1.01)), normal) : normal;
+}
+
+/* In line or nearly so, on either side of the body; with the whole powers of two, in line to the bit. */
+static vector opposite(vector from)
+{
+    double away = one_in(8) ? 0 : scaled(-24, -8);
+    vector other = times(one_in(8) ? 1 : -1, from);
+    return times(scaled(-2, 2), plus(other, times(away * length(from), across(over(from, length(from))))));
+}
+
+static vector with_some_sign(vector a)
+{
+    return (vector){ a.x, a.y == 0 ? either_sign(0) : a.y, a.z == 0 ? either_sign(0) : a.z };
+}
+
+/* Both positions and the normal on the axes, zeros of either sign. */
+static void put_in_line(word *w)
+{
+    put_vector(w + 1, with_some_sign((vector){ 0x1p22, 0, 0 }));
+    put_vector(w + 4, with_some_sign((vector){ -0x1p22 * scaled(-1, 1), one_in(4) ? 0x1p12 : 0, 0 }));
+    w[8].way.normal = with_some_sign((vector){ one_in(4), 0, 0 });
+    if (w[8].way.normal.x == 0)
+        w[8].way.normal.z = either_sign(1);
+}
+
+static void some_given_normal(request *q, const orbit *o)
+{
+    q->words[8].way = (way){ NORMAL_GIVEN, some_normal(o) };
+    if (one_in(2))
+        put_vector(q->words + 4, opposite(o->at.r));
+    if (one_in(8))
+        put_in_line(q->words);
+}
+
 /* From a point of an orbit to a later one, mostly in the orbit's own time and way round. */
 static void some_transfer(request *q)
 {
@@ -110,7 +155,9 @@ static void some_transfer(request *q)
     put_orbit(q, &o);
     put_vector(q->words + 4, to);
     q->words[7].number = t;
-    q->words[8].long_way = short_way == one_in(8);
+    q->words[8].way = (way){ .as = short_way == one_in(8) ? LONG_WAY : SHORT_WAY };
+    if (one_in(3))
+        some_given_normal(q, &o);
 }
 
 /* The half tangent at which an orbit stops having a time, or starts to, between a and b. */

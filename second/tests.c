@@ -6,6 +6,7 @@ names of_r = { "rx", "ry", "rz", "|r|" };
 names of_v = { "vx", "vy", "vz", "|v|" };
 names of_a = { "ax", "ay", "az", "|a|" };
 names of_b = { "bx", "by", "bz", "|b|" };
+names of_n = { "nx", "ny", "nz", "|n|" };
 
 void must_be_finite(failure *f, const char *name, double x)
 {

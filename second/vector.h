@@ -38,6 +38,11 @@ static inline vector times(double f, vector a)
     return (vector){ f * a.x, f * a.y, f * a.z };
 }
 
+static inline bool finite_vector(vector a)
+{
+    return isfinite(a.x) && isfinite(a.y) && isfinite(a.z);
+}
+
 static inline vector plus(vector a, vector b)
 {
     return (vector){ a.x + b.x, a.y + b.y, a.z + b.z };

@@ -55,6 +55,12 @@ REQUESTS = [
     ("T-09: 19 ahead of 6 in Kepler", "kepler.c", "    must(f, fabs(k->c1)", "    fall_test(f, p_n_of(mu, from));\n    must(f, fabs(k->c1)"),
     ("T-09: 19 ahead of 6 in Time-Theta", "theta.c", "    must(&f, fabs(c2)", "    fall_test(&f, p_n);\n    must(&f, fabs(c2)"),
     ("T-09: 19 ahead of 6 in Periapo", "apsides.c", "    must(&f, fabs(c2)", "    fall_test(&f, p_n);\n    must(&f, fabs(c2)"),
+    ("T-13: sinθ from the length", "lambert.c", "l->sine = dot(u1_u2, normal);", "l->sine = length(u1_u2);"),
+    ("T-13: the normal's length not tested", "lambert.c", '    must(f, fabs(off) <= 0x1p-40, 10, of_n[3], length(normal), "1 within 2^-40");\n', "    (void)off;\n"),
+    ("T-13: `<` for `≤` at 2^-40", "lambert.c", "fabs(off) <= 0x1p-40", "fabs(off) < 0x1p-40"),
+    ("T-13: `<` for `≤` at 1−cosθ = 2^-20", "lambert.c", "1 - l->cosine >= 0x1p-20", "1 - l->cosine > 0x1p-20"),
+    ("T-13: row 1 without the normal", "lambert.c", "        must_be_finite_vector(f, of_n, way.normal);\n", "        ;\n"),
+    ("T-13: the cross product's normal used", "lambert.c", "    l->normal = normal;\n", "    l->normal = over(u1_u2, length(u1_u2));\n"),
 ]
 
 

@@ -74,6 +74,7 @@ fn fold_way(sum: u64, way: Way) -> u64 {
     match way {
         Way::Long => fold::word(sum, 1),
         Way::Short => fold::word(sum, 0),
+        Way::Normal(_) => fold::word(sum, 2),
     }
 }
 
