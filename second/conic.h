@@ -1,4 +1,5 @@
-/* 01, 'Kepler', 'Lambert and Time-Theta', 'Apsides'. In every answer `refused` is 01's number, or 0. */
+/* 01, 'Kepler', 'Lambert and Time-Theta', 'Apsides', with what 02 changed. In every answer `refused` is the
+ * number of 01 or 02, or 0. */
 #ifndef CONIC_H
 #define CONIC_H
 
@@ -13,14 +14,19 @@ typedef struct {
     int refused;
     int64_t n; /* the lower neighbour */
     uint64_t count;
+    uint64_t turns; /* Kepler's: whole turns taken off the time asked for */
     enum grade grade;
     double time, err;
     vector r, v; /* Lambert answers v alone */
 } solution;
 
+/* The way round of a transfer; or its normal, and then no way round is read. */
+typedef struct { enum { SHORT_WAY, LONG_WAY, NORMAL_GIVEN } as; vector normal; } way;
+
 typedef struct { int refused; bool closed; double near, far; } apses;
 
 solution kepler(double mu, state from, double time);
+solution transfer_velocity(double mu, vector from, vector to, double time, way way);
 solution lambert(double mu, vector from, vector to, double time, bool long_way);
 number time_theta(double mu, state from, double sine, double cosine);
 apses apsides(double mu, state at);

@@ -1,6 +1,5 @@
 #include "desk.h"
 
-#include "conic.h"
 #include "real.h"
 
 #include <inttypes.h>
@@ -150,46 +149,68 @@ static bool read_judgement(span w, judgement *out)
     return (out->as == LOW || span_begins(w, "high:")) && read_number(behind(w, head), &out->time);
 }
 
-static bool read_word(char letter, span w, word *out)
+/* What is left of a line, and the number of the word taken last. */
+typedef struct { span rest; int number; } reader;
+
+static span next_word(reader *from)
+{
+    from->number++;
+    return take_word(&from->rest);
+}
+
+static bool read_way(reader *from, way *out)
+{
+    span w = next_word(from);
+    *out = (way){ .as = span_is(w, "long") ? LONG_WAY : span_is(w, "short") ? SHORT_WAY : NORMAL_GIVEN };
+    if (out->as != NORMAL_GIVEN)
+        return true;
+    vector *n = &out->normal;
+    return span_is(w, "normal") && read_number(next_word(from), &n->x) && read_number(next_word(from), &n->y)
+           && read_number(next_word(from), &n->z);
+}
+
+static bool read_part(char letter, reader *from, word *out)
 {
     switch (letter) {
     case 'n':
-        return read_number(w, &out->number);
+        return read_number(next_word(from), &out->number);
     case 'i':
-        return read_whole(w, &out->whole);
+        return read_whole(next_word(from), &out->whole);
     case 'k':
-        return read_count(w, &out->count);
+        return read_count(next_word(from), &out->count);
     case 'j':
-        return read_judgement(w, &out->judgement);
+        return read_judgement(next_word(from), &out->judgement);
     default:
-        out->long_way = span_is(w, "long");
-        return out->long_way || span_is(w, "short");
+        return read_way(from, &out->way);
     }
+}
+
+static bool read_routine(span w, enum routine *out)
+{
+    int routine = 0;
+    while (routine < ROUTINES && !span_is(w, forms[routine].name))
+        routine++;
+    *out = (enum routine)routine;
+    return routine < ROUTINES;
 }
 
 int read_request(const char *line, size_t length, request *out)
 {
-    span rest = { line, length };
-    if (span_begins(rest, "#"))
+    reader from = { { line, length }, 0 };
+    if (span_begins(from.rest, "#"))
         return NOTHING;
     if (length > LINE_MAX)
         return 0;
-    span w = take_word(&rest);
-    if (w.length == 0)
+    span name = next_word(&from);
+    if (name.length == 0)
         return NOTHING;
-
-    int routine = 0, number = 1;
-    while (routine < ROUTINES && !span_is(w, forms[routine].name))
-        routine++;
-    if (routine == ROUTINES)
-        return number;
-    out->routine = (enum routine)routine;
-    for (const char *letter = forms[routine].words; *letter; letter++, number++) {
-        w = take_word(&rest);
-        if (w.length == 0 || !read_word(*letter, w, &out->words[number - 1]))
-            return number + 1;
-    }
-    return take_word(&rest).length == 0 ? READ : number + 1;
+    if (!read_routine(name, &out->routine))
+        return from.number;
+    word *w = out->words;
+    for (const char *letter = forms[out->routine].words; *letter; letter++)
+        if (!read_part(*letter, &from, w++))
+            return from.number;
+    return next_word(&from).length == 0 ? READ : from.number;
 }
 
 /* Answering. */
@@ -262,7 +283,10 @@ static void say_solution(pen *p, bool orbit, solution a)
         say(p, "refused %d", a.refused);
         return;
     }
-    say(p, "done n %" PRId64 " count %" PRIu64 " grade %s ", a.n, a.count, grades[a.grade]);
+    say(p, "done n %" PRId64 " count %" PRIu64, a.n, a.count);
+    if (orbit)
+        say(p, " turns %" PRIu64, a.turns);
+    say(p, " grade %s ", grades[a.grade]);
     if (orbit)
         say_numbers(p, "time D err D r D D D v D D D",
                     (double[]){ a.time, a.err, a.r.x, a.r.y, a.r.z, a.v.x, a.v.y, a.v.z });
@@ -310,7 +334,7 @@ void answer_request(const request *asked, char out[ANSWER_MAX])
         break;
     case LAMBERT:
         say_solution(&p, false,
-                     lambert(w[0].number, vector_at(w + 1), vector_at(w + 4), w[7].number, w[8].long_way));
+                     transfer_velocity(w[0].number, vector_at(w + 1), vector_at(w + 4), w[7].number, w[8].way));
         break;
     case THETA:
         say_number(&p, "time D", time_theta(w[0].number, state_at(w + 1), w[7].number, w[8].number));

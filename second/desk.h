@@ -2,6 +2,7 @@
 #ifndef DESK_H
 #define DESK_H
 
+#include "conic.h"
 #include "iterator.h"
 
 #include <stddef.h>
@@ -9,7 +10,7 @@
 enum routine { ROOT, C, S, TRIAL, KEPLER, LAMBERT, THETA, APSIDES, ROUTINES };
 
 /* A routine's name and a letter for each word behind it:
- * n a number, i a whole number (i64), k a trial's number (u64), j a judgement, w short or long. */
+ * n a number, i a whole number (i64), k a count (u64), j a judgement, w the way round: short, long, or normal and three numbers. */
 typedef struct { const char *name, *words; } form;
 
 extern const form forms[ROUTINES];
@@ -21,7 +22,7 @@ typedef union {
     int64_t whole;
     uint64_t count;
     judgement judgement;
-    bool long_way;
+    way way;
 } word;
 
 typedef struct { enum routine routine; word words[WORDS_MAX]; } request;

@@ -44,7 +44,7 @@ static void spell_word(char *out, char letter, word w, bool decimal)
         spell_judgement(out, w.judgement, decimal);
         break;
     default:
-        strcpy(out, w.long_way ? "long" : "short");
+        strcpy(out, w.way.as == LONG_WAY ? "long" : w.way.as == SHORT_WAY ? "short" : "normal");
     }
 }
 
@@ -54,6 +54,12 @@ static spelling spelled(const request *q, bool decimal)
     strcpy(s.words[0], forms[q->routine].name);
     for (const char *letter = forms[q->routine].words; *letter; letter++, s.count++)
         spell_word(s.words[s.count], *letter, q->words[s.count - 1], decimal);
+    if (q->routine == LAMBERT && q->words[8].way.as == NORMAL_GIVEN) {
+        vector n = q->words[8].way.normal;
+        spell_number(s.words[s.count++], n.x, decimal);
+        spell_number(s.words[s.count++], n.y, decimal);
+        spell_number(s.words[s.count++], n.z, decimal);
+    }
     return s;
 }
 
@@ -89,7 +95,7 @@ static const char *bad_word(void)
         "nan", "inf", "low:", "low", "low:-", "high:x", "high:1.", "LOW:1", "under:1", "over:", "under", "over",
         "high:-0", "low:+0.5", "18446744073709551615", "18446744073709551616", "9223372036854775807",
         "9223372036854775808", "-9223372036854775808", "-9223372036854775809", "+5", "-0", "5-", "\xCE\xBE",
-        "short", "long", "Short", "shorter", "#",
+        "short", "long", "normal", "Short", "shorter", "#",
     };
     return bad[below(sizeof bad / sizeof *bad)];
 }

@@ -9,6 +9,8 @@
 
 _Static_assert(FLT_EVAL_METHOD == 0 && DBL_MANT_DIG == 53, "every operation rounds once, to f64");
 
+static const uint64_t sign_bit = UINT64_C(1) << 63;
+
 static inline uint64_t bits_of(double x)
 {
     uint64_t bits;

@@ -14,7 +14,7 @@ number root(double x)
 
 bool xi_in_range(double xi)
 {
-    return -50 <= xi && xi <= 39.46875;
+    return xi_least <= xi && xi <= xi_most;
 }
 
 static double nested(double xi, const double divisors[8])

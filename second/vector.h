@@ -38,25 +38,14 @@ static inline vector times(double f, vector a)
     return (vector){ f * a.x, f * a.y, f * a.z };
 }
 
-static inline vector plus(vector a, vector b)
-{
-    return (vector){ a.x + b.x, a.y + b.y, a.z + b.z };
-}
-
 static inline bool finite_vector(vector a)
 {
     return isfinite(a.x) && isfinite(a.y) && isfinite(a.z);
 }
 
-/* Each component at most, or under, a size. */
-static inline bool at_most(vector a, double size)
+static inline vector plus(vector a, vector b)
 {
-    return fabs(a.x) <= size && fabs(a.y) <= size && fabs(a.z) <= size;
-}
-
-static inline bool under(vector a, double size)
-{
-    return fabs(a.x) < size && fabs(a.y) < size && fabs(a.z) < size;
+    return (vector){ a.x + b.x, a.y + b.y, a.z + b.z };
 }
 
 #endif

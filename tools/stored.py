@@ -13,17 +13,17 @@ PAGE = ROOT / "docs" / "TESTS.md"
 MARKS = ("<!-- stored -->", "<!-- /stored -->")
 GRADES = ["closed", "fair", "rough"]
 
-# what each routine can answer; Kepler's 8 is in its type and never given
+# what each routine can answer; an advance has no 8 (T-06)
 ANSWERS = {
     "root": ["value", "refused 1"],
     "c": ["value", "refused 1", "refused 6"],
     "s": ["value", "refused 1", "refused 6"],
     "trial": ["point", "none", "refused 1", "refused 6"],
-    "kepler": GRADES + [f"refused {n}" for n in (1, 2, 3, 4, 5, 6, 7, 9)],
+    "kepler": GRADES + [f"refused {n}" for n in (1, 2, 3, 4, 5, 6, 19, 7, 9)],
     "lambert": GRADES + [f"refused {n}" for n in (1, 2, 3, 5, 10, 6, 7, 8, 9)],
-    "theta": ["time"] + [f"refused {n}" for n in (1, 2, 3, 4, 10, 6, 7, 8)],
-    "apsides": ["closed", "open"] + [f"refused {n}" for n in (1, 2, 3, 4, 6)],
-    "a line that cannot be read": [f"unread {n}" for n in range(12)],
+    "theta": ["time"] + [f"refused {n}" for n in (1, 2, 3, 4, 10, 6, 19, 7, 8)],
+    "apsides": ["closed", "open"] + [f"refused {n}" for n in (1, 2, 3, 4, 6, 19)],
+    "a line that cannot be read": [f"unread {n}" for n in range(15)],
 }
 
 

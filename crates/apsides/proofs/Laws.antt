@@ -24,9 +24,10 @@ use Rattle.table.specs.declared.Entry.{Entry}
 use Rattle.table.specs.Tests as Tests
 use Rattle.table.specs.Tests.{firstFailing, allMeet, firstRow, tableOrder}
 use Rattle.rows.specs.Rows.{finiteInputs, stateRows}
-use Rattle.table.proofs.Laws.{reason, all-met, met-right, first-row, row-then}
+use Rattle.table.proofs.Laws.{reason, all-met, met-left, met-right, first-row, row-then}
 use Rattle.real.proofs.Tests.{and-0, and-1}
 use Rattle.rows.proofs.Inputs.{allFinite, inputs-finite}
+use Rattle.conic.specs.Conic.{straightRow}
 use Rattle.apsides.specs.declared.Shape.{Shape}
 use Rattle.apsides.specs.declared.Apsides.{Apsides}
 use Rattle.apsides.specs.declared.Apsides.the-variants.{Closed, Open, Refused}
@@ -128,7 +129,7 @@ module _ (mu : Float) (s : State) where
   -- an input that is infinite or not a number is refused with 1, whatever else holds
   pub apsides-not-finite : (finite mu && allFinite (positionOf s) && allFinite (velocityOf s)) ≡ false → numberOf (apsidesOf mu s) ≡ 1
   apsides-not-finite h =
-      let behind : List Entry = stateRows mu s (shapeOf mu s .r1) ++ derivedRow (shapeOf mu s) in
+      let behind : List Entry = stateRows mu s (shapeOf mu s .r1) ++ derivedRow (shapeOf mu s) ++ straightRow (shapeOf mu s .pn) in
       answered-number (firstFailing tests) (shapeOf mu s)
       ∙ row-then 1 (finiteInputs mu Position (positionOf s) Velocity (velocityOf s)) behind refl
       ∙ ap (λ (b : Bool). cond b (Tests.numberOf (firstFailing behind)) 1) (inputs-finite mu Position Velocity (positionOf s) (velocityOf s) ∙ h)
@@ -190,5 +191,6 @@ answered-clean (Failed e) d h = tt
 pub apsides-clean : (mu : Float) (s : State) → Clean (apsidesOf mu s)
 apsides-clean mu s =
     let d = shapeOf mu s in
+    let rows : List Entry = finiteInputs mu Position (positionOf s) Velocity (velocityOf s) ++ stateRows mu s (d .r1) in
     answered-clean (firstFailing (apsidesTests mu s d)) d
-    (λ g. distances-clean d (near-clean mu s (met-right (finiteInputs mu Position (positionOf s) Velocity (velocityOf s) ++ stateRows mu s (d .r1)) (derivedRow d) (all-met (apsidesTests mu s d) g))))
+    (λ g. distances-clean d (near-clean mu s (met-right rows (derivedRow d) (met-left (rows ++ derivedRow d) (straightRow (d .pn)) (all-met (apsidesTests mu s d) g)))))

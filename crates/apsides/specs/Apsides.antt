@@ -16,7 +16,7 @@ use Rattle.table.specs.declared.Test.the-variants.{Passed, Failed}
 use Rattle.vector.specs.Vectors.{positionOf, velocityOf, crossOf, lengthOf}
 use Rattle.table.specs.Tests.{Reason, entry, firstFailing}
 use Rattle.rows.specs.Rows.{finiteInputs, stateRows}
-use Rattle.conic.specs.Conic.{c2Of, pOf, c2Row, pRow}
+use Rattle.conic.specs.Conic.{c2Of, pOf, c2Row, pRow, pNOf, straightRow}
 use Rattle.apsides.specs.declared.Shape.{Shape}
 use Rattle.apsides.specs.declared.Apsides.{Apsides}
 use Rattle.apsides.specs.declared.Apsides.the-variants.{Closed, Open, Refused}
@@ -32,23 +32,23 @@ abbrev pub shapeOf : Float → State → Shape
 shapeOf mu s =
     let r1 = lengthOf (positionOf s) in
     let c2 = c2Of r1 (velocityOf s) mu in
-    let p = pOf (crossOf (positionOf s) (velocityOf s)) mu in
+    let h = crossOf (positionOf s) (velocityOf s) in
     record {
       r1 = r1;
       c2 = c2;
       alpha = f1 ⊖ c2;
-      p = p;
-      pn = p ⊘ r1;
-      e = rootOf (radicandOf (f1 ⊖ p ⊘ r1 ⊗ (f1 ⊖ c2)));
+      p = pOf h mu;
+      pn = pNOf h mu r1;
+      e = rootOf (radicandOf (f1 ⊖ pNOf h mu r1 ⊗ (f1 ⊖ c2)));
     }
 
 -- 6: |c2| < 2^6, p_N = p/r ≤ 2^4, e < 2^3
 abbrev pub derivedRow : Shape → List Entry
 derivedRow d = c2Row (d .c2) ++ pRow (d .pn) ++ (entry 6 E Whole (d .e) (Under (two^ 3)) ∷ [])
 
--- rows 1 to 4 and 6
+-- rows 1 to 4, 6 and 19
 abbrev pub apsidesTests : Float → State → Shape → List Entry
-apsidesTests mu s d = finiteInputs mu Position (positionOf s) Velocity (velocityOf s) ++ stateRows mu s (d .r1) ++ derivedRow d
+apsidesTests mu s d = finiteInputs mu Position (positionOf s) Velocity (velocityOf s) ++ stateRows mu s (d .r1) ++ derivedRow d ++ straightRow (d .pn)
 
 -- near = p/(1 + e); closed, with far = p/(1 − e), if α_N > 0 and 1 − e > 0 and far < 2^29; otherwise open, with near only
 unfoldable pub distancesOf : Shape → Apsides

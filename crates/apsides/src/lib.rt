@@ -70,14 +70,14 @@ fn derived_row(t: Test, d: Shape) -> Test
     table::under(a, 6, Name::E, Part::Whole, d.e, 8.0)
 }
 
-// Rows 1 to 4 and 6.
+// Rows 1 to 4, 6 and 19.
 pub fn tests(mu: f64, s: State, d: Shape) -> Test
     ensures { λ r. ⌜ r ≡ firstFailing (apsidesTests mu s d) ⌝ }
 {
     let r = vector::position(s);
     let v = vector::velocity(s);
     let a = rows::finite_inputs(mu, Name::Position, r, Name::Velocity, v);
-    derived_row(rows::state_rows(a, mu, s, d.r1), d)
+    conic::straight_row(derived_row(rows::state_rows(a, mu, s, d.r1), d), d.pn)
 }
 
 fn distances(d: Shape) -> Apsides

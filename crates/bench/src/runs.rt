@@ -39,9 +39,8 @@ fn advance(bare: bool, from: &mut u64, sum: u64) -> u64 {
         return fold::state(fold::number(fold::number(sum, mu), t), s);
     }
     match solve::advance(mu, s, t) {
-        Advanced::Found(to, x) => fold::state(fold::solution(sum, x), to),
+        Advanced::Found(to, x, _) => fold::state(fold::solution(sum, x), to),
         Advanced::TooLong => fold::refusal(sum, 7),
-        Advanced::TooShort => fold::refusal(sum, 8),
         Advanced::Refused(no) => fold::refusal(sum, no),
     }
 }
@@ -75,6 +74,7 @@ fn fold_way(sum: u64, way: Way) -> u64 {
     match way {
         Way::Long => fold::word(sum, 1),
         Way::Short => fold::word(sum, 0),
+        Way::Normal(_) => fold::word(sum, 2),
     }
 }
 

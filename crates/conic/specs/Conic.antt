@@ -9,7 +9,7 @@ use Rattle.series.specs.Series.{bothAnswer}
 use Rattle.vector.specs.declared.Vector.{Vector}
 use Rattle.table.specs.declared.Name.the-variants.{C2, P}
 use Rattle.table.specs.declared.Part.the-variants.{Whole}
-use Rattle.table.specs.declared.Limit.the-variants.{AtMost, SizeUnder}
+use Rattle.table.specs.declared.Limit.the-variants.{AtLeast, AtMost, SizeUnder}
 use Rattle.table.specs.declared.Entry.{Entry}
 use Rattle.vector.specs.Vectors.{dotOf}
 use Rattle.table.specs.Tests.{entry}
@@ -29,12 +29,20 @@ c2Of r1 v mu = r1 ⊗ dotOf v v ⊘ mu ⊖ f1
 abbrev pub pOf : Vector → Float → Float
 pOf h mu = dotOf h h ⊘ mu
 
+-- p_N = p/r
+abbrev pub pNOf : Vector → Float → Float → Float
+pNOf h mu r1 = pOf h mu ⊘ r1
+
 -- 6: |c2| < 2^6, and p_N ≤ 2^4
 abbrev pub c2Row : Float → List Entry
 c2Row c2 = entry 6 C2 Whole c2 (SizeUnder (two^ 6)) ∷ []
 
 abbrev pub pRow : Float → List Entry
 pRow pN = entry 6 P Whole pN (AtMost (two^ 4)) ∷ []
+
+-- 19: p_N < 2^-20, a straight fall
+abbrev pub straightRow : Float → List Entry
+straightRow pN = entry 19 P Whole pN (AtLeast (two^- 20)) ∷ []
 
 -- t = (c1·(z·c) + x·(c2·(z·s) + r1))/√mu
 abbrev pub timeOf : Orbit → Float → Float → Float → Float → Float

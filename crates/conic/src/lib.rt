@@ -6,7 +6,7 @@ use table::Test;
 use vector::Vector;
 ghost use mathlib.Core.Path.{_≡_};
 ghost use Rattle.table.specs.Tests.{_▷_};
-ghost use Rattle.conic.specs.Conic.{gridOf, c2Of, pOf, c2Row, pRow, timeOf, pointAt};
+ghost use Rattle.conic.specs.Conic.{gridOf, c2Of, pOf, pNOf, c2Row, pRow, straightRow, timeOf, pointAt};
 
 // What the trials of one solve share.
 pub struct Orbit {
@@ -53,6 +53,13 @@ pub fn p(h: Vector, mu: f64) -> f64
     vector::dot(h, h) / mu
 }
 
+// p_N of a state: p over r1 = |r|.
+pub fn pn(h: Vector, mu: f64, r1: f64) -> f64
+    ensures { λ r. ⌜ r ≡ pNOf h mu r1 ⌝ }
+{
+    p(h, mu) / r1
+}
+
 // Row 6 for c2: |c2| < 2^6.
 pub fn c2_row(t: Test, c2: f64) -> Test
     ensures { λ r. ⌜ r ≡ t ▷ c2Row c2 ⌝ }
@@ -65,6 +72,13 @@ pub fn p_row(t: Test, pn: f64) -> Test
     ensures { λ r. ⌜ r ≡ t ▷ pRow pn ⌝ }
 {
     table::at_most(t, 6, Name::P, Part::Whole, pn, 16.0)
+}
+
+// Row 19: 2^-20 ≤ p_N. Under it a state has almost no sideways speed, and falls straight.
+pub fn straight_row(t: Test, pn: f64) -> Test
+    ensures { λ r. ⌜ r ≡ t ▷ straightRow pn ⌝ }
+{
+    table::at_least(t, 19, Name::P, Part::Whole, pn, 9.5367431640625e-7)
 }
 
 // The time at x, with c and s at its ξ and z = x·x.

@@ -6,14 +6,15 @@ use lib.Ieee.{Float, neg}
 use Rattle.real.specs.F64.{_⊕_, _⊖_, _⊗_, _⊘_, _≤ᶠ_, _<ᶠ_, two^, two^-, f0, f1, f2}
 use Rattle.root.specs.Root.{rootOf}
 use Rattle.vector.specs.declared.Vector.{Vector}
-use Rattle.table.specs.declared.Name.the-variants.{First, Second, Velocity, Time, Cross, Ratio}
-use Rattle.table.specs.declared.Part.the-variants.{Whole}
+use Rattle.table.specs.declared.Name.the-variants as N
+use Rattle.table.specs.declared.Name.the-variants.{First, Second, Velocity, Time, Cross, Versine, Ratio}
+use Rattle.table.specs.declared.Part.the-variants.{Length, Whole}
 use Rattle.table.specs.declared.Limit.the-variants as L
-use Rattle.table.specs.declared.Limit.the-variants.{AtLeast}
+use Rattle.table.specs.declared.Limit.the-variants.{AtLeast, OneWithin}
 use Rattle.table.specs.declared.Entry.{Entry}
 use Rattle.vector.specs.Vectors.{dotOf, crossOf, lengthOf, scaledOf, sumOf, dividedOf, negatedOf}
 use Rattle.table.specs.Tests.{entry}
-use Rattle.rows.specs.Rows.{finiteNumber, finiteInputs, muRow, positionRow, velocityComponents, transferTimeRow}
+use Rattle.rows.specs.Rows.{finiteNumber, finiteVector, finiteInputs, muRow, positionRow, velocityComponents, transferTimeRow}
 use Rattle.conic.specs.Conic.{gridOf}
 use Rattle.iterator.specs.declared.Judgement.{Judgement}
 use Rattle.iterator.specs.declared.Judgement.the-variants as J
@@ -23,11 +24,11 @@ use Rattle.reach.specs.declared.Reached.{Reached}
 use Rattle.reach.specs.declared.Reached.the-variants as R
 use Rattle.reach.specs.Reach.{cothalfOf, cothalfRow, reachOf}
 use Rattle.lambert.specs.declared.Way.{Way}
-use Rattle.lambert.specs.declared.Way.the-variants.{Short, Long}
+use Rattle.lambert.specs.declared.Way.the-variants.{Short, Long, Normal}
 use Rattle.lambert.specs.declared.Turn.{Turn}
 use Rattle.lambert.specs.declared.Transfer.{Transfer}
 
--- sinθ = |u1×u2|, negated for the long way round; normal = (u1×u2)/|u1×u2|, negated likewise
+-- sinθ = |u1×u2|, negated for the long way round; normal = (u1×u2)/|u1×u2|, negated likewise; with a normal given, sinθ = (u1×u2)·normal
 unfoldable pub turnOf : Vector → Vector → Way → Turn
 turnOf u1 u2 Short =
     let h = crossOf u1 u2 in
@@ -35,6 +36,9 @@ turnOf u1 u2 Short =
 turnOf u1 u2 Long =
     let h = crossOf u1 u2 in
     record { size = lengthOf h; sin = neg (lengthOf h); normal = negatedOf (dividedOf h (lengthOf h)) }
+turnOf u1 u2 (Normal n) =
+    let h = crossOf u1 u2 in
+    record { size = lengthOf h; sin = dotOf h n; normal = n }
 
 -- ratio = r1/r2, and the numbers that every trial needs
 abbrev pub sharedOf : Float → Float → Float → Vector → Float → Turn → Transfer
@@ -66,22 +70,39 @@ transferOf mu first second way =
 abbrev pub positionRows : Vector → Vector → Transfer → List Entry
 positionRows first second d = positionRow First first (d .r1) ++ positionRow Second second (d .r2)
 
+-- 1, of a normal that is given
+abbrev pub normalInput : Way → List Entry
+normalInput Short = []
+normalInput Long = []
+normalInput (Normal n) = finiteVector N.Normal n
+
 -- 1, 2, 3 and 5
-abbrev pub inputRows : Float → Vector → Vector → Float → Transfer → List Entry
-inputRows mu first second t d =
-    finiteInputs mu First first Second second ++ finiteNumber Time t ++ muRow mu ++ positionRows first second d ++ transferTimeRow t
+abbrev pub inputRows : Float → Vector → Vector → Way → Float → Transfer → List Entry
+inputRows mu first second way t d =
+    finiteInputs mu First first Second second
+    ++ finiteNumber Time t
+    ++ normalInput way
+    ++ muRow mu
+    ++ positionRows first second d
+    ++ transferTimeRow t
+
+-- 10 with a normal given: 1 − cosθ < 2^-20, or the normal's length not 1 within 2^-40
+abbrev pub normalRow : Vector → Float → List Entry
+normalRow n cos = entry 10 Versine Whole (f1 ⊖ cos) (AtLeast (two^- 20)) ∷ entry 10 N.Normal Length (lengthOf n) (OneWithin (two^- 40)) ∷ []
 
 -- 10: |u1×u2| < 2^-10
-abbrev pub angleRow : Transfer → List Entry
-angleRow d = entry 10 Cross Whole (d .size) (AtLeast (two^- 10)) ∷ []
+abbrev pub angleRow : Way → Transfer → List Entry
+angleRow Short d = entry 10 Cross Whole (d .size) (AtLeast (two^- 10)) ∷ []
+angleRow Long d = entry 10 Cross Whole (d .size) (AtLeast (two^- 10)) ∷ []
+angleRow (Normal n) d = normalRow n (d .cos)
 
 -- 6: r1/r2 < 2^7, |sinθ/(1−cosθ)| ≤ 2^5
 abbrev pub derivedRow : Transfer → List Entry
 derivedRow d = entry 6 Ratio Whole (d .ratio) (L.Under (two^ 7)) ∷ cothalfRow (d .cothalf)
 
 -- the tests ahead of the first trial, in the order of the rows
-abbrev pub lambertTests : Float → Vector → Vector → Float → Transfer → List Entry
-lambertTests mu first second t d = inputRows mu first second t d ++ angleRow d ++ derivedRow d
+abbrev pub lambertTests : Float → Vector → Vector → Way → Float → Transfer → List Entry
+lambertTests mu first second way t d = inputRows mu first second way t d ++ angleRow way d ++ derivedRow d
 
 -- 1. den = (ratio − cosθ) + sinθ·cot
 abbrev pub denOf : Transfer → Float → Float
@@ -107,9 +128,9 @@ arcOf d p cot = record {
   cothalf = d .cothalf;
 }
 
--- under if sinθ > 0, else over
+-- under if sinθ > 0, else over; a sinθ of 0 counts as positive
 unfoldable pub sideOf : Float → Reached
-sideOf sin = cond (f0 <ᶠ sin) R.Under R.Over
+sideOf sin = cond (f0 ≤ᶠ sin) R.Under R.Over
 
 -- Unless den > 0, or if p > 16: the side above. Then 4 to 7.
 unfoldable pub reachAt : Transfer → Float → Reached

@@ -10,12 +10,13 @@ use vector::Vector;
 ghost use mathlib.Core.Path.{_≡_};
 ghost use Rattle.table.specs.declared.Test.the-variants.{Passed};
 ghost use Rattle.table.specs.Tests.{_▷_, firstFailing};
-ghost use Rattle.lambert.specs.Lambert.{turnOf, sharedOf, transferOf, positionRows, inputRows, angleRow, derivedRow, lambertTests, denOf, pOf, arcOf, sideOf, reachAt, lambertJudge, velocityOf, resultRow};
+ghost use Rattle.lambert.specs.Lambert.{turnOf, sharedOf, transferOf, positionRows, normalInput, inputRows, normalRow, angleRow, derivedRow, lambertTests, denOf, pOf, arcOf, sideOf, reachAt, lambertJudge, velocityOf, resultRow};
 
-// The short way round from the first position to the second, or the long way.
+// The short way round from the first position to the second, the long way, or the way round a normal that is given.
 pub enum Way {
     Short,
     Long,
+    Normal(Vector),
 }
 
 // What depends on the way: sinθ and the normal. The size |u1×u2| itself does not.
@@ -57,6 +58,11 @@ fn turn_of(u1: Vector, u2: Vector, way: Way) -> Turn
             size,
             sin: -size,
             normal: vector::negated(normal),
+        },
+        Way::Normal(n) => Turn {
+            size,
+            sin: vector::dot(h, n),
+            normal: n,
         },
     }
 }
@@ -100,20 +106,57 @@ fn position_rows(t: Test, first: Vector, second: Vector, d: Transfer) -> Test
     rows::position_row(a, Name::Second, second, d.r2)
 }
 
-// Rows 1, 2, 3 and 5.
-fn input_rows(mu: f64, first: Vector, second: Vector, t: f64, d: Transfer) -> Test
-    ensures { λ r. ⌜ r ≡ Passed ▷ inputRows mu first second t d ⌝ }
+// Row 1, of a normal that is given.
+fn normal_input(t: Test, way: Way) -> Test
+    ensures { λ r. ⌜ r ≡ t ▷ normalInput way ⌝ }
 {
-    let a = rows::finite_inputs(mu, Name::First, first, Name::Second, second);
-    let b = rows::mu_row(rows::finite_number(a, Name::Time, t), mu);
-    rows::transfer_time_row(position_rows(b, first, second, d), t)
+    match way {
+        Way::Short => t,
+        Way::Long => t,
+        Way::Normal(n) => rows::finite_vector(t, Name::Normal, n),
+    }
 }
 
-// Row 10: 2^-10 ≤ |u1×u2|.
-fn angle_row(t: Test, d: Transfer) -> Test
-    ensures { λ r. ⌜ r ≡ t ▷ angleRow d ⌝ }
+// Rows 1, 2, 3 and 5.
+fn input_rows(mu: f64, first: Vector, second: Vector, way: Way, t: f64, d: Transfer) -> Test
+    ensures { λ r. ⌜ r ≡ Passed ▷ inputRows mu first second way t d ⌝ }
 {
-    table::at_least(t, 10, Name::Cross, Part::Whole, d.size, 9.765625e-4)
+    let a = rows::finite_inputs(mu, Name::First, first, Name::Second, second);
+    let b = normal_input(rows::finite_number(a, Name::Time, t), way);
+    rows::transfer_time_row(position_rows(rows::mu_row(b, mu), first, second, d), t)
+}
+
+// Row 10 of a normal that is given: 2^-20 ≤ 1 − cosθ, then the normal's length 1 within 2^-40.
+fn normal_row(t: Test, n: Vector, cos: f64) -> Test
+    ensures { λ r. ⌜ r ≡ t ▷ normalRow n cos ⌝ }
+{
+    let a = table::at_least(
+        t,
+        10,
+        Name::Versine,
+        Part::Whole,
+        1.0 - cos,
+        9.5367431640625e-7,
+    );
+    table::one_within(
+        a,
+        10,
+        Name::Normal,
+        Part::Length,
+        vector::length(n),
+        9.094947017729282e-13,
+    )
+}
+
+// Row 10: 2^-10 ≤ |u1×u2|, or that of the normal.
+fn angle_row(t: Test, way: Way, d: Transfer) -> Test
+    ensures { λ r. ⌜ r ≡ t ▷ angleRow way d ⌝ }
+{
+    match way {
+        Way::Short => table::at_least(t, 10, Name::Cross, Part::Whole, d.size, 9.765625e-4),
+        Way::Long => table::at_least(t, 10, Name::Cross, Part::Whole, d.size, 9.765625e-4),
+        Way::Normal(n) => normal_row(t, n, d.cos),
+    }
 }
 
 // Row 6: r1/r2 < 2^7, then |sinθ/(1−cosθ)| ≤ 2^5.
@@ -125,10 +168,11 @@ fn derived_row(t: Test, d: Transfer) -> Test
 }
 
 // Rows 1, 2, 3, 5, 10 and 6, ahead of the first trial.
-pub fn tests(mu: f64, first: Vector, second: Vector, t: f64, d: Transfer) -> Test
-    ensures { λ r. ⌜ r ≡ firstFailing (lambertTests mu first second t d) ⌝ }
+pub fn tests(mu: f64, first: Vector, second: Vector, way: Way, t: f64, d: Transfer) -> Test
+    ensures { λ r. ⌜ r ≡ firstFailing (lambertTests mu first second way t d) ⌝ }
 {
-    derived_row(angle_row(input_rows(mu, first, second, t, d), d), d)
+    let a = input_rows(mu, first, second, way, t, d);
+    derived_row(angle_row(a, way, d), d)
 }
 
 fn den_at(d: Transfer, cot: f64) -> f64
@@ -158,11 +202,12 @@ fn arc_at(d: Transfer, p: f64, cot: f64) -> Arc
     }
 }
 
-// Where a step gives no p: under if sinθ > 0, else over.
+// Where a step gives no p: under if sinθ > 0, else over. A sinθ of 0, which only a normal that is given can make,
+// counts as positive.
 fn side(sin: f64) -> Reached
     ensures { λ r. ⌜ r ≡ sideOf sin ⌝ }
 {
-    if 0.0 < sin {
+    if 0.0 <= sin {
         return Reached::Under;
     }
     Reached::Over

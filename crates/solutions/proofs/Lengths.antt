@@ -21,7 +21,7 @@ use Rattle.solve.specs.declared.Advanced.{Advanced}
 use Rattle.solve.specs.declared.Advanced.the-variants as Ad
 use Rattle.solve.specs.declared.Transferred.{Transferred}
 use Rattle.solve.specs.declared.Transferred.the-variants as Tr
-use Rattle.solutions.specs.Solutions.{gradeText, countPieces, timesPieces, donePieces, orbitPieces, transferPieces, advancedPieces, transferredPieces}
+use Rattle.solutions.specs.Solutions.{gradeText, countPieces, timesPieces, gradedPieces, donePieces, turnedPieces, orbitPieces, transferPieces, advancedPieces, transferredPieces}
 
 -- the length of pieces
 abbrev size : List (List ℕ) → ℕ
@@ -44,21 +44,25 @@ times-short : (t err : Float) → size (timesPieces t err) ≤ 53
 unfolding timesPieces
 times-short t err = simp (concat-append, length-append) (omega (arith, labelled-short (ascii " time") (t ∷ []), labelled-short (ascii " err") (err ∷ [])))
 
-grade-and-times : (g : Grade) (t err : Float) → size (ascii " grade " ∷ gradeText g ∷ timesPieces t err) ≤ 66
-unfolding concat
-grade-and-times g t err = simp length-append (omega (arith, grade-short g, times-short t err))
+graded-short : (x : Solution) → size (gradedPieces x) ≤ 66
+unfolding concat gradedPieces
+graded-short x = simp length-append (omega (arith, grade-short (x .grade), times-short (x .t) (x .err)))
 
 done-short : (x : Solution) → size (donePieces x) ≤ 121
 unfolding donePieces
-done-short x = simp (concat-append, length-append) (omega (arith, count-short (x .n) (x .count), grade-and-times (x .grade) (x .t) (x .err)))
+done-short x = simp (concat-append, length-append) (omega (arith, count-short (x .n) (x .count), graded-short x))
 
-orbit-short : (s : State) (x : Solution) → size (orbitPieces s x) ≤ 512
+turned-short : (x : Solution) (turns : ℕ) → size (turnedPieces x turns) ≤ 148
+unfolding concat turnedPieces
+turned-short x turns = simp (concat-append, length-append) (omega (arith, count-short (x .n) (x .count), at-most 20 turns, graded-short x))
+
+orbit-short : (s : State) (x : Solution) (turns : ℕ) → size (orbitPieces s x turns) ≤ 512
 unfolding orbitPieces
-orbit-short s x =
+orbit-short s x turns =
     simp (concat-append, length-append) (
     omega (
       arith,
-      done-short x,
+      turned-short x turns,
       labelled-short (ascii " r") (s .rx ∷ s .ry ∷ s .rz ∷ []),
       labelled-short (ascii " v") (s .vx ∷ s .vy ∷ s .vz ∷ []),
       end-short (x .t ∷ x .err ∷ s .rx ∷ s .ry ∷ s .rz ∷ s .vx ∷ s .vy ∷ s .vz ∷ []),
@@ -75,9 +79,8 @@ transfer-short v x =
 -- ---- each answer
 
 pub advanced-fits : (a : Advanced) → size (advancedPieces a) ≤ 512
-advanced-fits (Ad.Found s x) = orbit-short s x
+advanced-fits (Ad.Found s x turns) = orbit-short s x turns
 advanced-fits Ad.TooLong = refused-fits (advancedNumber Ad.TooLong)
-advanced-fits Ad.TooShort = refused-fits (advancedNumber Ad.TooShort)
 advanced-fits (Ad.Refused n) = refused-fits (advancedNumber (Ad.Refused n))
 
 pub transferred-fits : (a : Transferred) → size (transferredPieces a) ≤ 512

@@ -30,18 +30,26 @@ countPieces n count = ascii "done n " ∷ signedText n ∷ ascii " count " ∷ d
 unfoldable pub timesPieces : Float → Float → List (List ℕ)
 timesPieces t err = labelledPieces (ascii " time") (t ∷ []) ++ labelledPieces (ascii " err") (err ∷ [])
 
+-- ` grade G time D err D`
+unfoldable pub gradedPieces : Solution → List (List ℕ)
+gradedPieces x = ascii " grade " ∷ gradeText (x .grade) ∷ timesPieces (x .t) (x .err)
+
 -- `done n N count K grade G time D err D`
 unfoldable pub donePieces : Solution → List (List ℕ)
-donePieces x = countPieces (x .n) (x .count) ++ (ascii " grade " ∷ gradeText (x .grade) ∷ timesPieces (x .t) (x .err))
+donePieces x = countPieces (x .n) (x .count) ++ gradedPieces x
+
+-- `done n N count K turns W grade G time D err D`
+unfoldable pub turnedPieces : Solution → ℕ → List (List ℕ)
+turnedPieces x turns = countPieces (x .n) (x .count) ++ (ascii " turns " ∷ decimal turns ∷ gradedPieces x)
 
 -- ` v D D D`
 abbrev pub velocityPieces : Float → Float → Float → List (List ℕ)
 velocityPieces x y z = labelledPieces (ascii " v") (x ∷ y ∷ z ∷ [])
 
 -- `done .. r D D D v D D D bits X X X X X X X X`
-unfoldable pub orbitPieces : State → Solution → List (List ℕ)
-orbitPieces s x =
-    donePieces x
+unfoldable pub orbitPieces : State → Solution → ℕ → List (List ℕ)
+orbitPieces s x turns =
+    turnedPieces x turns
     ++ (labelledPieces (ascii " r") (s .rx ∷ s .ry ∷ s .rz ∷ [])
     ++ (velocityPieces (s .vx) (s .vy) (s .vz)
     ++ endPieces (x .t ∷ x .err ∷ s .rx ∷ s .ry ∷ s .rz ∷ s .vx ∷ s .vy ∷ s .vz ∷ [])))
@@ -53,9 +61,8 @@ transferPieces v x = donePieces x ++ (velocityPieces (v .x) (v .y) (v .z) ++ end
 -- ---- each answer
 
 abbrev pub advancedPieces : Advanced → List (List ℕ)
-advancedPieces (Ad.Found s x) = orbitPieces s x
+advancedPieces (Ad.Found s x turns) = orbitPieces s x turns
 advancedPieces Ad.TooLong = refusedPieces (advancedNumber Ad.TooLong)
-advancedPieces Ad.TooShort = refusedPieces (advancedNumber Ad.TooShort)
 advancedPieces (Ad.Refused n) = refusedPieces (advancedNumber (Ad.Refused n))
 
 abbrev pub transferredPieces : Transferred → List (List ℕ)

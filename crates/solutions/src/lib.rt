@@ -2,7 +2,7 @@
 // hold every line. What is answered is the line's length.
 ghost use Rattle.text.specs.Text.{Put};
 ghost use Rattle.text.specs.Pieces.{Laid};
-ghost use Rattle.solutions.specs.Solutions.{gradeText, countPieces, timesPieces, donePieces, orbitPieces, transferPieces, advancedPieces, transferredPieces};
+ghost use Rattle.solutions.specs.Solutions.{gradeText, countPieces, timesPieces, gradedPieces, donePieces, turnedPieces, orbitPieces, transferPieces, advancedPieces, transferredPieces};
 use solve::Advanced;
 use solve::Grade;
 use solve::Solution;
@@ -38,24 +38,40 @@ fn put_times(buf: &mut [u8], at: usize, t: f64, err: f64) -> usize
     columns::labelled(buf, a, b" err", &rest)
 }
 
+fn put_graded(buf: &mut [u8], at: usize, x: Solution) -> usize
+    ensures { λ r. ⌜ Laid (now (buf .entry)) at (gradedPieces x) (now (buf .exit)) r ⌝ }
+{
+    let grade = x.grade;
+    let a = text::bytes(buf, at, b" grade ");
+    let b = put_grade(buf, a, grade);
+    put_times(buf, b, x.t, x.err)
+}
+
 fn put_done(buf: &mut [u8], x: Solution) -> usize
     ensures { λ r. ⌜ Laid (now (buf .entry)) 0 (donePieces x) (now (buf .exit)) r ⌝ }
 {
-    let grade = x.grade;
     let a = put_count(buf, x.n, x.count);
-    let b = text::bytes(buf, a, b" grade ");
-    let c = put_grade(buf, b, grade);
-    put_times(buf, c, x.t, x.err)
+    put_graded(buf, a, x)
+}
+
+// The same with the turns taken off.
+fn put_turned(buf: &mut [u8], x: Solution, turns: u64) -> usize
+    ensures { λ r. ⌜ Laid (now (buf .entry)) 0 (turnedPieces x turns) (now (buf .exit)) r ⌝ }
+{
+    let a = put_count(buf, x.n, x.count);
+    let b = text::bytes(buf, a, b" turns ");
+    let c = text::number(buf, b, turns);
+    put_graded(buf, c, x)
 }
 
 // The state that an advance found.
-fn orbit(buf: &mut [u8], s: State, x: Solution) -> usize
-    ensures { λ r. ⌜ Laid (now (buf .entry)) 0 (orbitPieces s x) (now (buf .exit)) r ⌝ }
+fn orbit(buf: &mut [u8], s: State, x: Solution, turns: u64) -> usize
+    ensures { λ r. ⌜ Laid (now (buf .entry)) 0 (orbitPieces s x turns) (now (buf .exit)) r ⌝ }
 {
     let r = [s.rx, s.ry, s.rz];
     let v = [s.vx, s.vy, s.vz];
     let all = [x.t, x.err, s.rx, s.ry, s.rz, s.vx, s.vy, s.vz];
-    let a = put_done(buf, x);
+    let a = put_turned(buf, x, turns);
     let b = columns::labelled(buf, a, b" r", &r);
     let c = columns::labelled(buf, b, b" v", &v);
     columns::end(buf, c, &all)
@@ -77,9 +93,8 @@ pub fn tell_advance(buf: &mut [u8], a: Advanced) -> usize
     ensures { λ r. ⌜ Laid (now (buf .entry)) 0 (advancedPieces a) (now (buf .exit)) r ⌝ }
 {
     match a {
-        Advanced::Found(s, x) => orbit(buf, s, x),
+        Advanced::Found(s, x, turns) => orbit(buf, s, x, turns),
         Advanced::TooLong => columns::refused(buf, 7),
-        Advanced::TooShort => columns::refused(buf, 8),
         Advanced::Refused(n) => columns::refused(buf, n),
     }
 }

@@ -4,6 +4,7 @@ use lib.ListN.{getD}
 use lib.Ieee.{Float, nan}
 use Rattle.vector.specs.declared.State.{State}
 use Rattle.lambert.specs.declared.Way.{Way}
+use Rattle.lambert.specs.declared.Way.the-variants.{Normal}
 use Rattle.forms.specs.declared.Request.{Request}
 use Rattle.forms.specs.declared.Solve.{Solve}
 use Rattle.forms.specs.declared.Solve.the-variants.{Kepler, Lambert, Theta, Apsides}
@@ -32,6 +33,9 @@ lambertEnd ask xs w = end (ask (lambertOf xs w))
 
 abbrev pub lambertGo : (Solve → Request) → List Float → Form
 lambertGo ask xs = way (lambertEnd ask xs)
+
+abbrev pub normalGo : (Way → Form) → List Float → Form
+normalGo go xs = go (Normal (record { x = getD xs 0 nan; y = getD xs 1 nan; z = getD xs 2 nan }))
 
 abbrev pub thetaOf : List Float → Solve
 thetaOf xs = Theta (getD xs 0 nan) (stateIn xs) (getD xs 7 nan) (getD xs 8 nan)

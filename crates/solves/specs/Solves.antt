@@ -8,7 +8,7 @@ use Rattle.vector.specs.declared.Vector.{Vector}
 use Rattle.vector.specs.declared.State.{State}
 use Rattle.vector.specs.Vectors.{stateOf}
 use Rattle.lambert.specs.declared.Way.{Way}
-use Rattle.lambert.specs.declared.Way.the-variants.{Short, Long}
+use Rattle.lambert.specs.declared.Way.the-variants.{Short, Long, Normal}
 use Rattle.forms.specs.declared.Request.{Request}
 use Rattle.forms.specs.declared.Request.the-variants.{Unread}
 use Rattle.forms.specs.declared.Solve.{Solve}
@@ -33,7 +33,7 @@ abbrev pub orbit : (Float → State → Form) → Form
 orbit go = three λ mu r v. go mu (stateOf r v)
 
 abbrev pub way : (Way → Form) → Form
-way go = word (ascii "short") (go Short) (word (ascii "long") (go Long) none)
+way go = word (ascii "short") (go Short) (word (ascii "long") (go Long) (word (ascii "normal") (vector λ n. go (Normal n)) none))
 
 -- ---- the table; `ask` makes the request
 
@@ -65,9 +65,12 @@ asked (G.Unread w) ask = Unread w
 abbrev pub Gives : ((Solve → Request) → Form) → Given → ℕ → List ℕ → Type 0
 Gives form r k line = (ask : Solve → Request) → readBy (form ask) k line ≡ asked r ask
 
-abbrev pub behindWay : Round → (Way → Form) → ℕ → List ℕ → Request
-behindWay (R.Read w) go k line = readBy (go w) (k + 1) line
-behindWay R.Unread go k line = Unread (k + 1)
+abbrev pub behindWay : Round → (Way → Form) → List ℕ → Request
+behindWay (R.Read w k) go line = readBy (go w) k line
+behindWay (R.Unread k) go line = Unread k
+
+abbrev pub ReadsNormal : Round → ℕ → List ℕ → Type 0
+ReadsNormal r k line = (go : Way → Form) → readBy (vector λ n. go (Normal n)) k line ≡ behindWay r go line
 
 abbrev pub ReadsWay : Round → ℕ → List ℕ → Type 0
-ReadsWay r k line = (go : Way → Form) → readBy (way go) k line ≡ behindWay r go k line
+ReadsWay r k line = (go : Way → Form) → readBy (way go) k line ≡ behindWay r go line

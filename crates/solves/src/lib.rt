@@ -1,7 +1,7 @@
 // A solve as it stands in a line: its name, and what it is given. The name is behind the line's first k words, and what
 // it is given behind one more.
-ghost use Prim.Native.Nat.{_+_};
-ghost use Rattle.solves.specs.Solves.{keplerForm, lambertForm, thetaForm, apsidesForm, solveForm, Gives, ReadsWay};
+ghost use Prim.Native.Nat.{_+_, _^_, _≤_, _<_};
+ghost use Rattle.solves.specs.Solves.{keplerForm, lambertForm, thetaForm, apsidesForm, solveForm, Gives, ReadsNormal, ReadsWay};
 use forms::Solve;
 use lambert::Way;
 use vector::State;
@@ -13,22 +13,47 @@ pub enum Given {
     Unread(u64),
 }
 
+// The way round and how many words of the line it ends, or the number of the first word that cannot be read.
 enum Round {
-    Read(Way),
-    Unread,
+    Read(Way, u32),
+    Unread(u64),
 }
 
-fn way_at(line: &[u8], k: u64) -> Round
+// The three numbers of a normal.
+fn normal_at(line: &[u8], k: u32) -> Round
+    requires { ⌜ k < 2 ^ 18 ⌝ }
+    ensures { λ r. ⌜ ReadsNormal r k (now (line .entry)) ⌝ }
+{
+    let mut n = [0.0; 3];
+    let w = forms::numbers(line, k, &mut n);
+    if w != 0 {
+        return Round::Unread(w);
+    }
+    Round::Read(
+        Way::Normal(Vector {
+            x: n[0],
+            y: n[1],
+            z: n[2],
+        }),
+        k + 3,
+    )
+}
+
+fn way_at(line: &[u8], k: u32) -> Round
+    requires { ⌜ k < 2 ^ 17 ⌝ }
     ensures { λ r. ⌜ ReadsWay r k (now (line .entry)) ⌝ }
 {
-    let w = words::word(line, k);
+    let w = words::word(line, k as u64);
     if words::is_word(w, b"short") {
-        return Round::Read(Way::Short);
+        return Round::Read(Way::Short, k + 1);
     }
     if words::is_word(w, b"long") {
-        return Round::Read(Way::Long);
+        return Round::Read(Way::Long, k + 1);
     }
-    Round::Unread
+    if words::is_word(w, b"normal") {
+        return normal_at(line, k + 1);
+    }
+    Round::Unread(k as u64 + 1)
 }
 
 fn kepler(line: &[u8], k: u32) -> Given
@@ -54,6 +79,7 @@ fn kepler(line: &[u8], k: u32) -> Given
 }
 
 fn lambert(line: &[u8], k: u32) -> Given
+    requires { ⌜ k ≤ 65536 ⌝ }
     ensures { λ r. ⌜ Gives lambertForm r k (now (line .entry)) ⌝ }
 {
     let mut x = [0.0; 8];
@@ -61,10 +87,10 @@ fn lambert(line: &[u8], k: u32) -> Given
     if w != 0 {
         return Given::Unread(w);
     }
-    let at = k as u64 + 8;
-    match way_at(line, at) {
-        Round::Read(way) => {
-            if forms::is_end(line, at + 1) {
+    match way_at(line, k + 8) {
+        Round::Read(way, behind) => {
+            let at = behind as u64;
+            if forms::is_end(line, at) {
                 return Given::Read(Solve::Lambert {
                     mu: x[0],
                     first: Vector {
@@ -81,9 +107,9 @@ fn lambert(line: &[u8], k: u32) -> Given
                     way,
                 });
             }
-            Given::Unread(at + 2)
+            Given::Unread(at + 1)
         }
-        Round::Unread => Given::Unread(at + 1),
+        Round::Unread(j) => Given::Unread(j),
     }
 }
 

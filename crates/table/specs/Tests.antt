@@ -87,7 +87,7 @@ firstRow (n ∷ ns) es = cond (applies n es) n (firstRow ns es)
 
 -- the rows ahead of any trial, in the table's order
 abbrev pub tableOrder : List ℕ
-tableOrder = 1 ∷ 2 ∷ 3 ∷ 4 ∷ 5 ∷ 10 ∷ 6 ∷ []
+tableOrder = 1 ∷ 2 ∷ 3 ∷ 4 ∷ 5 ∷ 10 ∷ 6 ∷ 19 ∷ []
 
 -- the entries behind the leading ones of row n; and that none is of row n
 abbrev pub behind : ℕ → List Entry → List Entry

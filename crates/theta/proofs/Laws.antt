@@ -36,6 +36,7 @@ use Rattle.theta.specs.declared.Sweep.{Sweep}
 use Rattle.theta.specs.declared.Timed.{Timed}
 use Rattle.theta.specs.declared.TransferTime.{TransferTime}
 use Rattle.theta.specs.declared.TransferTime.the-variants.{Time}
+use Rattle.conic.specs.Conic.{straightRow}
 use Rattle.theta.specs.Theta.{sweepOf, inputRows, angleRow, derivedRow, thetaTests, arcOf, toldOf, answered, thetaOf, numberOf}
 
 -- ---- the answer's number
@@ -96,7 +97,7 @@ module _ (mu : Float) (s : State) (sin cos : Float) where
   theta-not-finite h =
       let inputs : List Entry = finiteInputs mu Position (positionOf s) Velocity (velocityOf s) in
       let angle : List Entry = finiteNumber Sin sin ++ finiteNumber Cos cos in
-      let behind : List Entry = stateRows mu s (S .r1) ++ angleRow S ++ derivedRow S in
+      let behind : List Entry = stateRows mu s (S .r1) ++ angleRow S ++ derivedRow S ++ straightRow (S .pn) in
       let known : allMeet (inputs ++ angle) ≡ false =
       meet-both inputs angle ∙ two-more (inputs-finite mu Position Velocity (positionOf s) (velocityOf s)) (finite sin) (finite cos) ∙ h
       in
@@ -107,9 +108,9 @@ module _ (mu : Float) (s : State) (sin cos : Float) where
   theta-zero g h =
       let e : allMeet (derivedRow S) ≡ false = cot-fails S (over-zero (dotOf (positionOf s) (velocityOf s)) (lengthOf (crossOf (positionOf s) (velocityOf s))) h) in
       refused (firstFailing tests) _ 5
-      (ap Tests.numberOf (met-then (inputRows mu s sin cos (S .r1) ++ angleRow S) (derivedRow S) g)
-      ∙ row-then 6 (derivedRow S) [] refl
-      ∙ ap (λ (b : Bool). cond b (Tests.numberOf (firstFailing [])) 6) e)
+      (ap Tests.numberOf (met-then (inputRows mu s sin cos (S .r1) ++ angleRow S) (derivedRow S ++ straightRow (S .pn)) g)
+      ∙ row-then 6 (derivedRow S) (straightRow (S .pn)) refl
+      ∙ ap (λ (b : Bool). cond b (Tests.numberOf (firstFailing (straightRow (S .pn)))) 6) e)
 
 -- ---- what is handed out with a time
 
@@ -142,7 +143,7 @@ theta-handed mu s sin cos z e =
     let N : List Entry = finiteInputs mu Position (positionOf s) Velocity (velocityOf s) ++ finiteNumber Sin sin ++ finiteNumber Cos cos in
     let P : List Entry = positionRow Position (positionOf s) (d .r1) in
     let W : List Entry = velocityComponents 4 Velocity (velocityOf s) in
-    let rows = met-right N (muRow mu ++ P ++ W) (met-left I (angleRow d) (met-left (I ++ angleRow d) (derivedRow d) (all-met (thetaTests mu s sin cos d) (a .0)))) in
+    let rows = met-right N (muRow mu ++ P ++ W) (met-left I (angleRow d) (met-left (I ++ angleRow d) (derivedRow d ++ straightRow (d .pn)) (all-met (thetaTests mu s sin cos d) (a .0)))) in
     let p = met-right (muRow mu) P (met-left (muRow mu ++ P) W rows) in
     record {
       time = in-time-finite (z .time) (reach-in (arcOf mu d) .held (z .time) (t .0));

@@ -14,7 +14,7 @@ use Rattle.table.specs.declared.Test.the-variants.{Passed, Failed}
 use Rattle.vector.specs.Vectors.{positionOf, velocityOf, dotOf, crossOf, lengthOf}
 use Rattle.table.specs.Tests.{entry, firstFailing}
 use Rattle.rows.specs.Rows.{finiteNumber, finiteInputs, stateRows}
-use Rattle.conic.specs.Conic.{c2Of, pOf, c2Row, pRow}
+use Rattle.conic.specs.Conic.{c2Of, pOf, c2Row, pRow, pNOf, straightRow}
 use Rattle.reach.specs.declared.Arc.{Arc}
 use Rattle.reach.specs.declared.Reached.{Reached}
 use Rattle.reach.specs.declared.Reached.the-variants as R
@@ -35,7 +35,7 @@ sweepOf mu s sin cos =
       versine = f1 ⊖ cos;
       c2 = c2Of (lengthOf r) v mu;
       cot = dotOf r v ⊘ lengthOf h;
-      pn = pOf h mu ⊘ lengthOf r;
+      pn = pNOf h mu (lengthOf r);
       cothalf = cothalfOf sin cos;
     }
 
@@ -54,7 +54,7 @@ derivedRow d = c2Row (d .c2) ++ (entry 6 Cot Whole (d .cot) (SizeAtMost (two^ 5)
 
 -- the tests, in the order of the rows
 abbrev pub thetaTests : Float → State → Float → Float → Sweep → List Entry
-thetaTests mu s sin cos d = inputRows mu s sin cos (d .r1) ++ angleRow d ++ derivedRow d
+thetaTests mu s sin cos d = inputRows mu s sin cos (d .r1) ++ angleRow d ++ derivedRow d ++ straightRow (d .pn)
 
 -- what steps 4 to 7 are given, with α_N = 1 − c2
 abbrev pub arcOf : Float → Sweep → Arc

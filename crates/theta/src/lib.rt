@@ -48,7 +48,7 @@ pub fn sweep_of(mu: f64, s: State, sin: f64, cos: f64) -> Sweep
         versine: 1.0 - cos,
         c2: conic::c2(r1, v, mu),
         cot: vector::dot(r, v) / vector::length(h),
-        pn: conic::p(h, mu) / r1,
+        pn: conic::pn(h, mu, r1),
         cothalf: reach::cothalf(sin, cos),
     }
 }
@@ -96,12 +96,12 @@ fn input_rows(mu: f64, s: State, sin: f64, cos: f64, r1: f64) -> Test
     rows::state_rows(c, mu, s, r1)
 }
 
-// Rows 1 to 4, 10 and 6.
+// Rows 1 to 4, 10, 6 and 19.
 pub fn tests(mu: f64, s: State, sin: f64, cos: f64, d: Sweep) -> Test
     ensures { λ r. ⌜ r ≡ firstFailing (thetaTests mu s sin cos d) ⌝ }
 {
     let a = input_rows(mu, s, sin, cos, d.r1);
-    derived_row(angle_row(a, d), d)
+    conic::straight_row(derived_row(angle_row(a, d), d), d.pn)
 }
 
 // What steps 4 to 7 are given.

@@ -20,10 +20,13 @@ state-rows-requires c κs = search needs
 derived-row-requires : tie.Need-derived-row-requires
 derived-row-requires c κs = search needs
 
+straight-row-requires : tie.Need-straight-row-requires
+straight-row-requires c κs = search needs
+
 returns : tie.Need-returns
 returns c =
-    let a = c .before .before .before .before .before .args in
-    simp (c .derived-row .ensures, c .before .state-rows .ensures, c .before .before .finite-inputs .ensures, c .before .before .before .velocity .ensures, c .before .before .before .before .position .ensures)
+    let a = c .before .before .before .before .before .before .args in
+    simp (c .straight-row .ensures, c .before .derived-row .ensures, c .before .before .state-rows .ensures, c .before .before .before .finite-inputs .ensures, c .before .before .before .before .velocity .ensures, c .before .before .before .before .before .position .ensures)
     (first-failing (apsidesTests (a .mu) (a .s) (a .d)))
 
 pub tests-spec : {M : Type 1} → statement M
@@ -35,4 +38,5 @@ tests-spec =
     finite-inputs-requires
     state-rows-requires
     derived-row-requires
+    straight-row-requires
     returns)

@@ -1,6 +1,5 @@
 -- `lambert::tests` meets its contract. Assumes nothing.
-use Rattle.table.proofs.Laws.{first-failing}
-use Rattle.lambert.specs.Lambert.{lambertTests}
+use Rattle.lambert.proofs.Chains.{tests-chain}
 use borrow.Author.Needs.{needs}
 use Rattle.lambert.proofs.tests.Statement.{statement}
 use Rattle.lambert.proofs.tests.Tie as tie
@@ -18,7 +17,7 @@ returns : tie.Need-returns
 returns c =
     let a = c .before .before .before .args in
     simp (c .derived-row .ensures, c .before .angle-row .ensures, c .before .before .input-rows .ensures)
-    (first-failing (lambertTests (a .mu) (a .first) (a .second) (a .t) (a .d)))
+    (tests-chain (a .mu) (a .first) (a .second) (a .way) (a .t) (a .d))
 
 pub tests-spec : {M : Type 1} → statement M
 tests-spec =

@@ -5,8 +5,8 @@ use borrow.Author.Needs.{needs}
 use Rattle.solutions.proofs.orbit.Statement.{statement}
 use Rattle.solutions.proofs.orbit.Tie as tie
 
-put-done-requires : tie.Need-put-done-requires
-put-done-requires c κs = search needs
+put-turned-requires : tie.Need-put-turned-requires
+put-turned-requires c κs = search needs
 
 slice-aggregate-labelled : tie.Need-slice-aggregate-labelled
 slice-aggregate-labelled c = search needs
@@ -37,13 +37,13 @@ same-length c = search needs
 
 returns : tie.Need-returns
 unfolding orbitPieces
-returns c = and-then (c .before .before .before .before .before .before .before .before .before .before .before .before .before .before .before .before .before .before .before .put-done .ensures) (and-then (c .before .before .before .before .before .before .before .before .before .before .before .before .before .labelled .ensures) (and-then (c .before .before .before .before .before .before .before .labelled2 .ensures) (c .before .before .end .ensures)))
+returns c = and-then (c .before .before .before .before .before .before .before .before .before .before .before .before .before .before .before .before .before .before .before .put-turned .ensures) (and-then (c .before .before .before .before .before .before .before .before .before .before .before .before .before .labelled .ensures) (and-then (c .before .before .before .before .before .before .before .labelled2 .ensures) (c .before .before .end .ensures)))
 
 pub orbit-spec : {M : Type 1} → statement M
 orbit-spec =
     tie.close
     (tie.spec
-    put-done-requires
+    put-turned-requires
     slice-aggregate-labelled
     slice-aggregate-labelled-2
     labelled-requires

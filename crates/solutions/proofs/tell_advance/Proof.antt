@@ -16,17 +16,11 @@ enum-told c = search needs
 refused-requires : tie.Need-refused-requires
 refused-requires c κs = search needs
 
-enum-told-2 : tie.Need-enum-told-2
-enum-told-2 c = search needs
-
-refused-requires-2 : tie.Need-refused-requires-2
-refused-requires-2 c κs = search needs
-
 enum-known-a-2 : tie.Need-enum-known-a-2
 enum-known-a-2 c = search needs
 
-refused-requires-3 : tie.Need-refused-requires-3
-refused-requires-3 c κs = search needs
+refused-requires-2 : tie.Need-refused-requires-2
+refused-requires-2 c κs = search needs
 
 same-length : tie.Need-same-length
 same-length c = search needs
@@ -46,14 +40,7 @@ same-length-3 c = search needs
 
 returns-3 : tie.Need-returns-3
 unfolding advancedNumber
-returns-3 c = rw (c .before .before .before .before .enum-told2 .given .1) (c .before .before .refused2 .ensures)
-
-same-length-4 : tie.Need-same-length-4
-same-length-4 c = search needs
-
-returns-4 : tie.Need-returns-4
-unfolding advancedNumber
-returns-4 c = rw (c .before .before .before .before .before .a2 .given .1) (c .before .before .refused3 .ensures)
+returns-3 c = rw (c .before .before .before .before .before .a2 .given .1) (c .before .before .refused2 .ensures)
 
 pub tell-advance-spec : {M : Type 1} → statement M
 tell-advance-spec =
@@ -63,15 +50,11 @@ tell-advance-spec =
     orbit-requires
     enum-told
     refused-requires
-    enum-told-2
-    refused-requires-2
     enum-known-a-2
-    refused-requires-3
+    refused-requires-2
     same-length
     returns
     same-length-2
     returns-2
     same-length-3
-    returns-3
-    same-length-4
-    returns-4)
+    returns-3)

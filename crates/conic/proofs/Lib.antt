@@ -1,0 +1,2 @@
+-- What the conic formulas come to.
+pub mod Mirrored

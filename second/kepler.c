@@ -1,0 +1,94 @@
+/* Kepler, and 02's T-02: times longer than one turn. */
+#include "solve.h"
+
+#include "real.h"
+
+/* The problem that the trials solve: rest is what is left of the size of time when whole turns are off. */
+typedef struct { double size, rest, root_mu, r1, c1, c2, alpha; uint64_t turns; } advance;
+
+static void take_turns_off(advance *k)
+{
+    k->rest = k->size;
+    if (!(k->alpha > 0))
+        return;
+    double a = 1 / k->alpha, period = 2 * 3.141592653589793 * a * sqrt(a) / k->root_mu;
+    k->turns = (uint64_t)(k->size / period);
+    k->rest = k->size - (double)k->turns * period;
+    if (k->rest < 0)
+        k->rest = 0;
+}
+
+static advance advance_of(double mu, state from, double size)
+{
+    advance k = { .size = size, .root_mu = sqrt(mu), .r1 = length(from.r) };
+    k.c1 = dot(from.r, from.v) / k.root_mu;
+    k.c2 = c2_of(mu, from);
+    k.alpha = (1 - k.c2) / k.r1;
+    return k;
+}
+
+static judgement judge_advance(const void *problem, int64_t n)
+{
+    const advance *k = problem;
+    double x = grid_step(n), xi = k->alpha * (x * x);
+    if (!xi_in_range(xi))
+        return (judgement){ OVER, 0 };
+    return judged(timed(time_at(k->c1, k->c2, k->r1, k->root_mu, x, xi)), k->rest);
+}
+
+/* The state after n steps of the grid, which took the time t. */
+static state state_at(const advance *k, state from, int64_t n, double t)
+{
+    double x = grid_step(n), z = x * x, xi = k->alpha * z;
+    pair at = both_series(xi);
+    double zc = z * at.c;
+    state to;
+    to.r = plus(times(1 - zc / k->r1, from.r), times(t - x * (z * at.s) / k->root_mu, from.v));
+    double r2 = length(to.r);
+    to.v = plus(times(k->root_mu * x * (xi * at.s - 1) / (k->r1 * r2), from.r),
+                times(1 - zc / r2, from.v));
+    return to;
+}
+
+static void tests_ahead(failure *f, double mu, state from, double time, const advance *k)
+{
+    finite_state(f, mu, from);
+    must_be_finite(f, "t", time);
+    state_rows(f, mu, from);
+    time_row(f, time);
+    must(f, fabs(k->c1) < 0x1p17, 6, "c1", k->c1, "under 2^17 in size");
+    must(f, fabs(k->c2) < 0x1p6, 6, "c2", k->c2, "under 2^6 in size");
+    fall_test(f, p_n_of(mu, from));
+}
+
+static void result_tests(failure *f, state to)
+{
+    position_result(f, to.r);
+    velocity_result(f, to.v);
+    must(f, length(to.r) > 0, 9, "|r|", length(to.r), "over 0");
+}
+
+solution kepler(double mu, state from, double time)
+{
+    bool back = time < 0;
+    state ahead = { from.r, back ? negated(from.v) : from.v };
+    advance k = advance_of(mu, ahead, back ? -time : time);
+    failure f = { 0 };
+    tests_ahead(&f, mu, from, time, &k);
+    if (f.number)
+        return (solution){ .refused = f.number };
+    take_turns_off(&k);
+
+    bracket grid = { 0, INT64_C(1) << 37, { LOW, 0 }, { OVER, 0 }, 0 };
+    solution found = closed_in(narrowed(grid, k.rest, judge_advance, &k), k.rest, k.size);
+    if (found.refused)
+        return found;
+    state to = state_at(&k, ahead, found.n, found.time);
+    result_tests(&f, to);
+    if (f.number)
+        return (solution){ .refused = f.number };
+    found.turns = k.turns;
+    found.r = to.r;
+    found.v = back ? negated(to.v) : to.v;
+    return found;
+}

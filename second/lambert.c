@@ -1,0 +1,111 @@
+/* Lambert, and 02's T-13: transfers with the normal given. */
+#include "solve.h"
+
+#include "real.h"
+
+/* The problem that the trials solve, and what makes a velocity of its solution. */
+typedef struct {
+    double mu, asked, ratio, sine, cosine;
+    transfer transfer;
+    vector u1, normal;
+} between_positions;
+
+/* Steps 1 and 2: p of a cot, or false. */
+static bool p_at(const between_positions *l, double cot, double *p)
+{
+    double den = (l->ratio - l->cosine) + l->sine * cot;
+    if (!(den > 0))
+        return false;
+    *p = (1 - l->cosine) / den;
+    return *p <= 16;
+}
+
+static judgement judge_transfer(const void *problem, int64_t n)
+{
+    const between_positions *l = problem;
+    double cot = grid_step(n), p;
+    if (!p_at(l, cot, &p))
+        return (judgement){ l->sine >= 0 ? UNDER : OVER, 0 };
+    double alpha_n = 2 - p * (1 + cot * cot);
+    return judged(flight_of(&l->transfer, p, cot, alpha_n), l->asked);
+}
+
+static void input_tests(failure *f, double mu, vector from, vector to, double time, way way)
+{
+    must_be_finite(f, "mu", mu);
+    must_be_finite_vector(f, of_a, from);
+    must_be_finite_vector(f, of_b, to);
+    must_be_finite(f, "t", time);
+    if (way.as == NORMAL_GIVEN)
+        must_be_finite_vector(f, of_n, way.normal);
+    mu_row(f, mu);
+    position_row(f, of_a, from);
+    position_row(f, of_b, to);
+    time_row(f, time);
+    must(f, time > 0, 5, "t", time, "over 0");
+}
+
+/* Sine and normal by the way round, with row 10. */
+
+static void by_cross_product(failure *f, between_positions *l, vector u1_u2, bool long_way)
+{
+    double sine = length(u1_u2);
+    must(f, sine >= 0x1p-10, 10, "|u1xu2|", sine, "at least 2^-10");
+    vector normal = over(u1_u2, sine);
+    l->sine = long_way ? -sine : sine;
+    l->normal = long_way ? negated(normal) : normal;
+}
+
+static void by_normal(failure *f, between_positions *l, vector u1_u2, vector normal)
+{
+    double off = length(normal) - 1;
+    l->sine = dot(u1_u2, normal);
+    l->normal = normal;
+    must(f, 1 - l->cosine >= 0x1p-20, 10, "1-cos", 1 - l->cosine, "at least 2^-20");
+    must(f, fabs(off) <= 0x1p-40, 10, of_n[3], length(normal), "1 within 2^-40");
+}
+
+/* The problem, and the tests ahead of the first trial. */
+static between_positions posed(failure *f, double mu, vector from, vector to, double time, way way)
+{
+    double r1 = length(from), r2 = length(to);
+    vector u1 = over(from, r1), u2 = over(to, r2), u1_u2 = cross(u1, u2);
+    between_positions l = { .mu = mu, .asked = time, .ratio = r1 / r2, .cosine = dot(u1, u2), .u1 = u1 };
+    input_tests(f, mu, from, to, time, way);
+    if (way.as == NORMAL_GIVEN)
+        by_normal(f, &l, u1_u2, way.normal);
+    else
+        by_cross_product(f, &l, u1_u2, way.as == LONG_WAY);
+    l.transfer = transfer_of(mu, r1, l.sine, l.cosine);
+    must(f, l.ratio < 0x1p7, 6, "r1/r2", l.ratio, "under 2^7");
+    turn_test(f, l.transfer.turn);
+    return l;
+}
+
+static vector velocity_at(const between_positions *l, int64_t n)
+{
+    double cot = grid_step(n), p = 0;
+    p_at(l, cot, &p);
+    return times(sqrt(l->mu * p / l->transfer.r1), plus(times(cot, l->u1), cross(l->normal, l->u1)));
+}
+
+solution transfer_velocity(double mu, vector from, vector to, double time, way way)
+{
+    failure f = { 0 };
+    between_positions l = posed(&f, mu, from, to, time, way);
+    if (f.number)
+        return (solution){ .refused = f.number };
+    const int64_t end = INT64_C(1) << 25;
+    bracket grid = { -end, end, { UNDER, 0 }, { OVER, 0 }, 0 };
+    solution found = closed_in(narrowed(grid, time, judge_transfer, &l), time, time);
+    if (found.refused)
+        return found;
+    found.v = velocity_at(&l, found.n);
+    velocity_result(&f, found.v);
+    return f.number ? (solution){ .refused = f.number } : found;
+}
+
+solution lambert(double mu, vector from, vector to, double time, bool long_way)
+{
+    return transfer_velocity(mu, from, to, time, (way){ .as = long_way ? LONG_WAY : SHORT_WAY });
+}

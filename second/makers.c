@@ -1,0 +1,215 @@
+/* A request of each routine that it could get in earnest. */
+#include "makers.h"
+
+#include "conic.h"
+#include "dice.h"
+#include "orbits.h"
+#include "real.h"
+
+void put_vector(word *w, vector a)
+{
+    w[0].number = a.x;
+    w[1].number = a.y;
+    w[2].number = a.z;
+}
+
+static void put_orbit(request *q, const orbit *o)
+{
+    q->words[0].number = o->mu;
+    put_vector(q->words + 1, o->at.r);
+    put_vector(q->words + 4, o->at.v);
+}
+
+static double some_xi(void)
+{
+    static const double limits[] = { -50, 40, 1, -1, 4, -4, 16, -16, 0 };
+    switch (below(4)) {
+    case 0:
+        return near(limits[below(sizeof limits / sizeof *limits)]);
+    case 1:
+        return either_sign(scaled(-40, 8));
+    case 2:
+        return one_in(3) ? oddity() : uniform(-1, 1);
+    default:
+        return uniform(-50.5, 40.5);
+    }
+}
+
+static double some_square(void)
+{
+    switch (below(4)) {
+    case 0:
+        return oddity();
+    case 1: {
+        double whole = (double)below(UINT64_C(1) << 26);
+        return near(whole * whole);
+    }
+    case 2:
+        return either_sign(of_bits(below(UINT64_C(1) << 53)));
+    default:
+        return of_bits(one_in(8) ? roll() : roll() & ~sign_bit);
+    }
+}
+
+static judgement some_end(double asked, bool upper)
+{
+    if (!isfinite(asked) || one_in(6))
+        return (judgement){ upper ? OVER : UNDER, 0 };
+    double away = one_in(16) ? 0 : one_in(8) ? 0x1p28 - fabs(asked) : scaled(-30, 27);
+    double t = upper ? asked + away : asked - away;
+    if (one_in(8))
+        t = near(asked);
+    if (one_in(24))
+        t = one_in(2) ? oddity() : either_sign(near(0x1p28));
+    return (judgement){ upper == !one_in(24) ? HIGH : LOW, t };
+}
+
+static int64_t some_whole(void)
+{
+    static const int64_t limits[] = { 0, INT64_C(1) << 37, -(INT64_C(1) << 37), INT64_MAX - 1, INT64_MIN + 1 };
+    if (one_in(8)) {
+        int64_t limit = limits[below(5)];
+        return limit + beside();
+    }
+    return (int64_t)either_sign(scaled(0, 37));
+}
+
+static void some_trial(request *q)
+{
+    double asked = one_in(10) ? 0 : either_sign(scaled(-20, 27));
+    if (one_in(16))
+        asked = one_in(2) ? oddity() : either_sign(near(0x1p28));
+    int64_t lo = some_whole(), hi = one_in(3) ? some_whole() : lo / 2 + (int64_t)scaled(0, 36);
+    if (one_in(8) && lo < INT64_MAX - 2)
+        hi = lo + (int64_t)below(3);
+    if (lo > hi && !one_in(16)) {
+        int64_t other = lo;
+        lo = hi, hi = other;
+    }
+    q->words[0].number = asked;
+    q->words[1].whole = lo;
+    q->words[2].whole = hi;
+    q->words[3].judgement = some_end(asked, false);
+    q->words[4].judgement = some_end(asked, true);
+    q->words[5].count = one_in(8) ? 0 - below(3) : 1 + below(74);
+}
+
+/* The orbit's own normal or its opposite, mostly; or one across, of a length about its limit, or in the plane. */
+static vector some_normal(const orbit *o)
+{
+    vector upright = cross(o->at.r, o->at.v), normal = over(upright, length(upright));
+    if (!finite_vector(normal) || one_in(8))
+        normal = direction();
+    if (one_in(8))
+        normal = over(o->at.r, length(o->at.r));
+    if (one_in(4))
+        normal = negated(normal);
+    return one_in(8) ? times(1 + either_sign(0x1p-40 * uniform(0.99, 1.01)), normal) : normal;
+}
+
+/* In line or nearly so, on either side of the body; with the whole powers of two, in line to the bit. */
+static vector opposite(vector from)
+{
+    double away = one_in(8) ? 0 : scaled(-24, -8);
+    vector other = times(one_in(8) ? 1 : -1, from);
+    return times(scaled(-2, 2), plus(other, times(away * length(from), across(over(from, length(from))))));
+}
+
+static vector with_some_sign(vector a)
+{
+    return (vector){ a.x, a.y == 0 ? either_sign(0) : a.y, a.z == 0 ? either_sign(0) : a.z };
+}
+
+/* Both positions and the normal on the axes, zeros of either sign. */
+static void put_in_line(word *w)
+{
+    put_vector(w + 1, with_some_sign((vector){ 0x1p22, 0, 0 }));
+    put_vector(w + 4, with_some_sign((vector){ -0x1p22 * scaled(-1, 1), one_in(4) ? 0x1p12 : 0, 0 }));
+    w[8].way.normal = with_some_sign((vector){ one_in(4), 0, 0 });
+    if (w[8].way.normal.x == 0)
+        w[8].way.normal.z = either_sign(1);
+}
+
+static void some_given_normal(request *q, const orbit *o)
+{
+    q->words[8].way = (way){ NORMAL_GIVEN, some_normal(o) };
+    if (one_in(2))
+        put_vector(q->words + 4, opposite(o->at.r));
+    if (one_in(8))
+        put_in_line(q->words);
+}
+
+/* From a point of an orbit to a later one, mostly in the orbit's own time and way round. */
+static void some_transfer(request *q)
+{
+    orbit o = some_orbit();
+    double t = some_time(&o);
+    solution later = kepler(o.mu, o.at, t);
+    double r2 = length(o.at.r) * scaled(-2, 2);
+    vector to = times(r2, direction());
+    if (!later.refused && !one_in(16))
+        to = later.r;
+    bool short_way = dot(cross(o.at.r, to), cross(o.at.r, o.at.v)) >= 0;
+    if (one_in(4))
+        t = t * scaled(-4, 10);
+    put_orbit(q, &o);
+    put_vector(q->words + 4, to);
+    q->words[7].number = t;
+    q->words[8].way = (way){ .as = short_way == one_in(8) ? LONG_WAY : SHORT_WAY };
+    if (one_in(3))
+        some_given_normal(q, &o);
+}
+
+/* The half tangent at which an orbit stops having a time, or starts to, between a and b. */
+static double last_angle(const orbit *o, double a, double b)
+{
+    int refused = time_theta(o->mu, o->at, sine_of(a), cosine_of(a)).refused;
+    for (int k = 0; k < 60; k++) {
+        double h = (a + b) / 2;
+        if (time_theta(o->mu, o->at, sine_of(h), cosine_of(h)).refused == refused)
+            a = h;
+        else
+            b = h;
+    }
+    return one_in(2) ? a : b;
+}
+
+static void some_angle(word *w, const orbit *o)
+{
+    double h = either_sign(one_in(8) ? scaled(-10, 10) : scaled(-4, 5));
+    double less = scaled(-4, 0), more = scaled(0, 5);
+    if (one_in(o->energy > 2 ? 2 : 8))
+        h = last_angle(o, less, more);
+    if (one_in(4))
+        h = h * (1 + either_sign(scaled(-50, -8)));
+    double longer = one_in(8) ? 1 + either_sign(0x1p-41 * uniform(0.99, 1.01)) : 1;
+    w[0].number = sine_of(h) * longer;
+    w[1].number = cosine_of(h) * longer;
+}
+
+request some_request(enum routine routine)
+{
+    request q = { .routine = routine };
+    orbit o = some_orbit();
+    switch (routine) {
+    case ROOT:
+        q.words[0].number = some_square();
+        break;
+    case C: case S:
+        q.words[0].number = some_xi();
+        break;
+    case TRIAL:
+        some_trial(&q);
+        break;
+    case LAMBERT:
+        some_transfer(&q);
+        break;
+    default:
+        put_orbit(&q, &o);
+        if (routine == KEPLER)
+            q.words[7].number = either_sign(some_time(&o));
+        if (routine == THETA)
+            some_angle(q.words + 7, &o);
+    }
+    return q;
+}

@@ -1,0 +1,73 @@
+#include "solve.h"
+
+#include "real.h"
+
+void finite_state(failure *f, double mu, state s)
+{
+    must_be_finite(f, "mu", mu);
+    must_be_finite_vector(f, of_r, s.r);
+    must_be_finite_vector(f, of_v, s.v);
+}
+
+void state_rows(failure *f, double mu, state s)
+{
+    mu_row(f, mu);
+    position_row(f, of_r, s.r);
+    velocity_row(f, s.v);
+}
+
+double c2_of(double mu, state s)
+{
+    return length(s.r) * dot(s.v, s.v) / mu - 1;
+}
+
+double p_of(double mu, state s)
+{
+    vector r_v = cross(s.r, s.v);
+    return dot(r_v, r_v) / mu;
+}
+
+double p_n_of(double mu, state s)
+{
+    return p_of(mu, s) / length(s.r);
+}
+
+void fall_test(failure *f, double p_n)
+{
+    must(f, p_n >= 0x1p-20, 19, "p", p_n, "at least 2^-20");
+}
+
+double grid_step(int64_t n)
+{
+    return (double)n * 0x1p-20;
+}
+
+double time_at(double c1, double c2, double r1, double root_mu, double x, double xi)
+{
+    double z = x * x;
+    pair at = both_series(xi);
+    return (c1 * (z * at.c) + x * (c2 * (z * at.s) + r1)) / root_mu;
+}
+
+flight timed(double t)
+{
+    return (flight){ time_in_range(t) ? TIMED : TOO_SLOW, t };
+}
+
+judgement judged(flight f, double asked)
+{
+    if (f.as != TIMED)
+        return (judgement){ f.as == TOO_FAST ? UNDER : OVER, 0 };
+    return (judgement){ f.t <= asked ? LOW : HIGH, f.t };
+}
+
+solution closed_in(bracket b, double trials_time, double size)
+{
+    if (!carries_time(b.below))
+        return (solution){ .refused = 8 };
+    if (!carries_time(b.above))
+        return (solution){ .refused = 7 };
+    double t = b.below.time, err = trials_time - t;
+    enum grade grade = err <= size * 0x1p-20 ? CLOSED : err <= size * 0x1p-10 ? FAIR : ROUGH;
+    return (solution){ .n = b.lo, .count = b.count, .grade = grade, .time = t, .err = err };
+}

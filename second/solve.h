@@ -1,0 +1,44 @@
+/* What the solves share. */
+#ifndef SOLVE_H
+#define SOLVE_H
+
+#include "conic.h"
+#include "iterator.h"
+#include "tests.h"
+
+/* Rows 1 and 2 to 4 for mu and a state. */
+void finite_state(failure *f, double mu, state s);
+void state_rows(failure *f, double mu, state s);
+
+/* What a state gives: c2 = |r|·(v·v)/mu − 1; α_N = 1 − c2. */
+double c2_of(double mu, state s);
+
+/* p = (r×v)·(r×v)/mu; p_N = p/|r|; and T-09's test of it. */
+double p_of(double mu, state s);
+double p_n_of(double mu, state s);
+void fall_test(failure *f, double p_n);
+
+/* x of a grid point, and cot γ. */
+double grid_step(int64_t n);
+
+/* t = (c1·(z·c) + x·(c2·(z·s) + r1))/√mu with z = x·x. */
+double time_at(double c1, double c2, double r1, double root_mu, double x, double xi);
+
+/* The way to a grid point has a time, or is too fast or too slow to have one. */
+typedef struct { enum { TIMED, TOO_FAST, TOO_SLOW } as; double t; } flight;
+
+flight timed(double t);
+judgement judged(flight f, double asked);
+
+/* The answer at the lower neighbour, still without an orbit, or 8 or 7: the trials' time, and the size of
+ * the time asked for, from which the grade's limits are taken. */
+solution closed_in(bracket b, double trials_time, double size);
+
+/* Steps 4 to 7: what a transfer keeps from trial to trial; turn = sinθ/(1 − cosθ). */
+typedef struct { double r1, root_r1, root_mu, turn; } transfer;
+
+transfer transfer_of(double mu, double r1, double sine, double cosine);
+void turn_test(failure *f, double turn);
+flight flight_of(const transfer *way, double p, double cot, double alpha_n);
+
+#endif
