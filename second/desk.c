@@ -1,6 +1,7 @@
 #include "desk.h"
 
 #include "real.h"
+#include "sight.h"
 
 #include <inttypes.h>
 #include <stdarg.h>
@@ -15,6 +16,8 @@ const form forms[ROUTINES] = {
     [LAMBERT] = { "lambert", "nnnnnnnnw" },
     [THETA] = { "theta", "nnnnnnnnn" },
     [APSIDES] = { "apsides", "nnnnnnn" },
+    [WHEEL] = { "wheel", "k" },
+    [SIGHT] = { "sight", "nnnnnnknnnnnn" },
 };
 
 /* Reading. */
@@ -302,6 +305,24 @@ static void say_apses(pen *p, apses a)
         say_numbers(p, a.closed ? "closed near D far D" : "open near D", (double[]){ a.near, a.far });
 }
 
+static void say_wheel(pen *p, wheel_answer a)
+{
+    if (a.refused)
+        say(p, "refused %d", a.refused);
+    else
+        say_numbers(p, "sine D cosine D", (double[]){ a.sine, a.cosine });
+}
+
+static void say_sight(pen *p, sight_answer a)
+{
+    vector first = a.points[0], second = a.points[1];
+    if (a.refused)
+        say(p, "refused %d", a.refused);
+    else
+        say_numbers(p, "points k D D first D D D second D D D",
+                    (double[]){ a.k[0], a.k[1], first.x, first.y, first.z, second.x, second.y, second.z });
+}
+
 static vector vector_at(const word *w)
 {
     return (vector){ w[0].number, w[1].number, w[2].number };
@@ -339,8 +360,14 @@ void answer_request(const request *asked, char out[ANSWER_MAX])
     case THETA:
         say_number(&p, "time D", time_theta(w[0].number, state_at(w + 1), w[7].number, w[8].number));
         break;
-    default:
+    case APSIDES:
         say_apses(&p, apsides(w[0].number, state_at(w + 1)));
+        break;
+    case WHEEL:
+        say_wheel(&p, wheel(w[0].count));
+        break;
+    default:
+        say_sight(&p, sight(vector_at(w), vector_at(w + 3), w[6].count, vector_at(w + 7), vector_at(w + 10)));
     }
 }
 

@@ -7,7 +7,7 @@
 
 #include <stddef.h>
 
-enum routine { ROOT, C, S, TRIAL, KEPLER, LAMBERT, THETA, APSIDES, ROUTINES };
+enum routine { ROOT, C, S, TRIAL, KEPLER, LAMBERT, THETA, APSIDES, WHEEL, SIGHT, ROUTINES };
 
 /* A routine's name and a letter for each word behind it:
  * n a number, i a whole number (i64), k a count (u64), j a judgement, w the way round: short, long, or normal and three numbers. */
@@ -15,7 +15,7 @@ typedef struct { const char *name, *words; } form;
 
 extern const form forms[ROUTINES];
 
-enum { WORDS_MAX = 12, LINE_MAX = 1000, ANSWER_MAX = 800 };
+enum { WORDS_MAX = 13, LINE_MAX = 1000, ANSWER_MAX = 800 };
 
 typedef union {
     double number;

@@ -187,6 +187,35 @@ static void some_angle(word *w, const orbit *o)
     w[1].number = cosine_of(h) * longer;
 }
 
+static uint64_t some_wheel(void)
+{
+    static const uint64_t edges[] = { 0, 900, 1800, 2700, 3599, 3600, 3601, UINT64_MAX };
+    return one_in(8) ? edges[below(8)] : below(3600);
+}
+
+/* A line of sight from below or above to the other orbit, along the vehicle's own horizon and upright; one in four
+ * in whole powers of two, where roots are equal. */
+static void some_sight(word *w)
+{
+    orbit o = some_orbit();
+    vector up = over(o.at.r, length(o.at.r)), along = across(up);
+    double other = length(o.at.r) * (1 + either_sign(scaled(-30, one_in(4) ? 0 : -4)));
+    vector passive = times(other, direction());
+    if (one_in(4)) {
+        o.at.r = (vector){ 0x1p22, 0, 0 }, up = (vector){ 1, 0, 0 }, along = (vector){ 0, one_in(2) ? 1 : -1, 0 };
+        passive = (vector){ 0, 0, one_in(2) ? 0x1p22 : near(0x1p22) };
+    }
+    if (one_in(8))
+        up = times(1 + either_sign(0x1p-40 * uniform(0.99, 1.01)), up);
+    if (one_in(8))
+        along = times(1 + either_sign(0x1p-40 * uniform(0.99, 1.01)), along);
+    put_vector(w, o.at.r);
+    put_vector(w + 3, passive);
+    w[6].count = some_wheel();
+    put_vector(w + 7, along);
+    put_vector(w + 10, up);
+}
+
 request some_request(enum routine routine)
 {
     request q = { .routine = routine };
@@ -203,6 +232,12 @@ request some_request(enum routine routine)
         break;
     case LAMBERT:
         some_transfer(&q);
+        break;
+    case WHEEL:
+        q.words[0].count = some_wheel();
+        break;
+    case SIGHT:
+        some_sight(q.words);
         break;
     default:
         put_orbit(&q, &o);

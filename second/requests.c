@@ -9,13 +9,15 @@
 
 #include <stdio.h>
 
-/* Edges. What a number of a solve stands for: mu, r a position, v a velocity, t a time, a an angle. */
+/* Edges. What a number of a solve stands for: mu, r a position, v a velocity, t a time, a an angle or a part of
+ * a unit vector; - no number. */
 
 static const char *const meanings[ROUTINES] = {
     [KEPLER] = "mrrrvvvt",
     [LAMBERT] = "mrrrrrrt",
     [THETA] = "mrrrvvvaa",
     [APSIDES] = "mrrrvvv",
+    [SIGHT] = "rrrrrr-aaaaaa",
 };
 
 static double some_limit(char meaning)
@@ -37,8 +39,9 @@ static double some_limit(char meaning)
 /* The last of them is a time or an angle for most, and worth more than a component. */
 static size_t some_field(const request *q)
 {
-    size_t count = strlen(meanings[q->routine]);
-    return one_in(6) ? count - 1 : below(count);
+    const char *meaning = meanings[q->routine];
+    size_t count = strlen(meaning), k = one_in(6) ? count - 1 : below(count);
+    return meaning[k] == '-' ? k + 1 : k;
 }
 
 /* One number set to a limit of its row or to an oddity; a position also along one axis alone. */
@@ -46,8 +49,9 @@ static request at_a_limit(request q)
 {
     size_t k = some_field(&q);
     char meaning = meanings[q.routine][k];
+    size_t first = q.routine == SIGHT ? 0 : 1;
     if (meaning == 'r' && one_in(2))
-        put_vector(q.words + 1 + (k - 1) / 3 * 3, (vector){ 0, one_in(2) ? -0.0 : 0, 0 });
+        put_vector(q.words + first + (k - first) / 3 * 3, (vector){ 0, one_in(2) ? -0.0 : 0, 0 });
     q.words[k].number = one_in(4) ? oddity() : some_limit(meaning);
     return q;
 }
@@ -135,11 +139,18 @@ static void emit_beside_an_edge(void)
     emit_request(&q, false);
 }
 
+/* Every setting of the thumbwheel, and one more. */
+static void emit_wheel(void)
+{
+    for (uint64_t e = 0; e <= 3600; e++)
+        emit_request(&(request){ .routine = WHEEL, .words[0].count = e }, false);
+}
+
 static void emit_some(void)
 {
     static const enum routine often[] = {
         ROOT, C, S, TRIAL, TRIAL, KEPLER, KEPLER, KEPLER, KEPLER, LAMBERT, LAMBERT, LAMBERT, LAMBERT,
-        THETA, THETA, APSIDES,
+        THETA, THETA, APSIDES, SIGHT,
     };
     if (one_in(20)) {
         request q = some_request((enum routine)below(ROUTINES));
@@ -166,6 +177,7 @@ void make_requests(uint64_t seed, uint64_t count)
     left = count;
     for (size_t k = 0; k < edge_count; k++)
         emit_text(edges[k]);
+    emit_wheel();
     while (left > 0)
         emit_some();
 }

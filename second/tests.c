@@ -7,6 +7,9 @@ names of_v = { "vx", "vy", "vz", "|v|" };
 names of_a = { "ax", "ay", "az", "|a|" };
 names of_b = { "bx", "by", "bz", "|b|" };
 names of_n = { "nx", "ny", "nz", "|n|" };
+names of_p = { "px", "py", "pz", "|p|" };
+names of_h = { "hx", "hy", "hz", "|h|" };
+names of_u = { "ux", "uy", "uz", "|u|" };
 
 void must_be_finite(failure *f, const char *name, double x)
 {

@@ -16,7 +16,7 @@ static inline void must(failure *f, bool holds, int number, const char *name, do
 /* The names of a vector's components and of its length. */
 typedef const char *const names[4];
 
-extern names of_r, of_v, of_a, of_b, of_n;
+extern names of_r, of_v, of_a, of_b, of_n, of_p, of_h, of_u;
 
 /* Rows 1 to 5. */
 void must_be_finite(failure *f, const char *name, double x);

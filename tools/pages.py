@@ -25,6 +25,7 @@ CASES = {
     "transfer-velocity": [("lambert/specs/Lambert", TESTS), ("lambert/specs/Lambert", r"^resultRow .*= velocityComponents (9)"), ("solve/specs/Answers", r"^transferredNumber \S+ = ([78])")],
     "transfer-time": [("theta/specs/Theta", TESTS), ("theta/specs/Theta", r"^numberOf Too\w+ = ([78])")],
     "apsides": [("apsides/specs/Apsides", TESTS)],
+    "sight": [("sight/specs/Sight", TESTS), ("wheel/specs/Wheel", REFUSED)],
     "root": [("root/specs/Root", REFUSED)],
     "series": [("series/specs/Series", REFUSED)],
     "trial": [("iterator/specs/Single", REFUSED)],

@@ -23,7 +23,9 @@ ANSWERS = {
     "lambert": GRADES + [f"refused {n}" for n in (1, 2, 3, 5, 10, 6, 7, 8, 9)],
     "theta": ["time"] + [f"refused {n}" for n in (1, 2, 3, 4, 10, 6, 19, 7, 8)],
     "apsides": ["closed", "open"] + [f"refused {n}" for n in (1, 2, 3, 4, 6, 19)],
-    "a line that cannot be read": [f"unread {n}" for n in range(15)],
+    "wheel": ["sine", "refused 16"],
+    "sight": ["points"] + [f"refused {n}" for n in (1, 3, 16, 17, 18)],
+    "a line that cannot be read": [f"unread {n}" for n in range(16)],
 }
 
 

@@ -54,6 +54,7 @@ lock
 part "layout" rt fmt --check
 part "promises" python3 tools/promises.py
 part "rules" python3 tools/rules.py
+part "table of sines" python3 tools/sines.py --check
 proofs
 part "pages" python3 tools/pages.py
 part "published cases" python3 tools/published.py

@@ -40,6 +40,18 @@ pub enum Solve {
     },
 }
 
+// What the thumbwheel and the sight line are given.
+pub enum Look {
+    Wheel(u64),
+    Sight {
+        active: Vector,
+        passive: Vector,
+        elevation: u64,
+        horizontal: Vector,
+        vertical: Vector,
+    },
+}
+
 // What a line asks. A line with no word and a comment ask nothing; a line that cannot be read tells its first such
 // word, or 0 for a line of over 1,000 bytes.
 pub enum Request {
@@ -55,6 +67,7 @@ pub enum Request {
         above: Judgement,
         k: u64,
     },
+    Look(Look),
     Solve(Solve),
     Unread(u64),
 }

@@ -14,12 +14,17 @@ use Rattle.apsides.specs.Apsides.{apsidesOf}
 use Rattle.forms.specs.declared.Request.{Request}
 use Rattle.forms.specs.declared.Request.the-variants.{Nothing, Root, C, S, Trial, Unread}
 use Rattle.forms.specs.declared.Request.the-variants as Q
+use Rattle.forms.specs.declared.Look.{Look}
+use Rattle.forms.specs.declared.Look.the-variants.{Wheel, Sight}
 use Rattle.forms.specs.declared.Solve.{Solve}
 use Rattle.forms.specs.declared.Solve.the-variants.{Kepler, Lambert, Theta, Apsides}
 use Rattle.columns.proofs.RowLaws.{unread-fits}
 use Rattle.answers.proofs.Lengths.{answer-fits, tried-fits, timed-fits, apsides-fits}
 use Rattle.solutions.proofs.Lengths.{advanced-fits, transferred-fits}
-use Rattle.reply.specs.Replies.{room, solvedOf, replyOf}
+use Rattle.wheel.specs.Wheel.{wheelOf}
+use Rattle.sight.specs.Sight.{sightOf}
+use Rattle.views.proofs.Lengths.{wheel-fits, sight-fits}
+use Rattle.reply.specs.Replies.{room, solvedOf, lookedOf, replyOf}
 
 solved-fits : (x : Solve) → length (concat (solvedOf x)) ≤ room
 unfolding solvedOf
@@ -28,6 +33,11 @@ solved-fits (Lambert mu first second time way) = transferred-fits (transferVeloc
 solved-fits (Theta mu state sine cosine) = timed-fits (thetaOf mu state sine cosine)
 solved-fits (Apsides mu state) = apsides-fits (apsidesOf mu state)
 
+looked-fits : (x : Look) → length (concat (lookedOf x)) ≤ room
+unfolding lookedOf
+looked-fits (Wheel e) = wheel-fits (wheelOf e)
+looked-fits (Sight active passive elevation horizontal vertical) = sight-fits (sightOf active passive elevation horizontal vertical)
+
 pub reply-fits : (q : Request) → length (concat (replyOf q)) ≤ room
 unfolding concat
 reply-fits Nothing = lit≤ tt
@@ -35,6 +45,7 @@ reply-fits (Root x) = answer-fits (rootAnswer x)
 reply-fits (C xi) = answer-fits (cAnswer xi)
 reply-fits (S xi) = answer-fits (sAnswer xi)
 reply-fits (Trial asked lo hi below above k) = tried-fits (trialOf asked lo hi below above k)
+reply-fits (Q.Look x) = looked-fits x
 reply-fits (Q.Solve x) = solved-fits x
 reply-fits (Unread w) = unread-fits w
 

@@ -12,11 +12,16 @@ use Rattle.apsides.specs.Apsides.{apsidesOf}
 use Rattle.forms.specs.declared.Request.{Request}
 use Rattle.forms.specs.declared.Request.the-variants.{Nothing, Root, C, S, Trial, Unread}
 use Rattle.forms.specs.declared.Request.the-variants as Q
+use Rattle.forms.specs.declared.Look.{Look}
+use Rattle.forms.specs.declared.Look.the-variants.{Wheel, Sight}
 use Rattle.forms.specs.declared.Solve.{Solve}
 use Rattle.forms.specs.declared.Solve.the-variants.{Kepler, Lambert, Theta, Apsides}
 use Rattle.requests.specs.Requests.{requestOf}
 use Rattle.answers.specs.Answers.{answerPieces, triedPieces, timedPieces, apsidesPieces}
 use Rattle.solutions.specs.Solutions.{advancedPieces, transferredPieces}
+use Rattle.wheel.specs.Wheel.{wheelOf}
+use Rattle.sight.specs.Sight.{sightOf}
+use Rattle.views.specs.Views.{wheelPieces, sightPieces}
 
 -- the bytes that hold every line
 abbrev pub room : ℕ
@@ -29,6 +34,10 @@ solvedOf (Lambert mu first second time way) = transferredPieces (transferVelocit
 solvedOf (Theta mu state sine cosine) = timedPieces (thetaOf mu state sine cosine)
 solvedOf (Apsides mu state) = apsidesPieces (apsidesOf mu state)
 
+unfoldable pub lookedOf : Look → List (List ℕ)
+lookedOf (Wheel e) = wheelPieces (wheelOf e)
+lookedOf (Sight active passive elevation horizontal vertical) = sightPieces (sightOf active passive elevation horizontal vertical)
+
 -- and nothing where nothing is asked
 abbrev pub replyOf : Request → List (List ℕ)
 replyOf Nothing = []
@@ -36,6 +45,7 @@ replyOf (Root x) = answerPieces (rootAnswer x)
 replyOf (C xi) = answerPieces (cAnswer xi)
 replyOf (S xi) = answerPieces (sAnswer xi)
 replyOf (Trial asked lo hi below above k) = triedPieces (trialOf asked lo hi below above k)
+replyOf (Q.Look x) = lookedOf x
 replyOf (Q.Solve x) = solvedOf x
 replyOf (Unread w) = unreadPieces w
 

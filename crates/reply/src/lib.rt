@@ -1,7 +1,8 @@
 // The desk: a line in, a line out.
 ghost use Rattle.text.specs.Text.{InFront};
 ghost use Rattle.text.specs.Pieces.{Laid};
-ghost use Rattle.reply.specs.Replies.{room, solvedOf, replyOf, replyText};
+ghost use Rattle.reply.specs.Replies.{room, solvedOf, lookedOf, replyOf, replyText};
+use forms::Look;
 use forms::Request;
 use forms::Solve;
 use text::Made;
@@ -32,6 +33,25 @@ fn solved(buf: &mut [u8], given: Solve) -> usize
     }
 }
 
+// The thumbwheel's answer, and the sight line's.
+fn looked(buf: &mut [u8], given: Look) -> usize
+    ensures { λ r. ⌜ Laid (now (buf .entry)) 0 (lookedOf given) (now (buf .exit)) r ⌝ }
+{
+    match given {
+        Look::Wheel(e) => views::tell_wheel(buf, wheel::wheel(e)),
+        Look::Sight {
+            active,
+            passive,
+            elevation,
+            horizontal,
+            vertical,
+        } => views::tell_sight(
+            buf,
+            sight::crossings(active, passive, elevation, horizontal, vertical),
+        ),
+    }
+}
+
 // What is asked, answered likewise.
 fn answered(buf: &mut [u8], request: Request) -> usize
     ensures { λ r. ⌜ Laid (now (buf .entry)) 0 (replyOf request) (now (buf .exit)) r ⌝ }
@@ -49,6 +69,7 @@ fn answered(buf: &mut [u8], request: Request) -> usize
             above,
             k,
         } => answers::tell_trial(buf, iterator::trial(asked, lo, hi, below, above, k)),
+        Request::Look(x) => looked(buf, x),
         Request::Solve(x) => solved(buf, x),
         Request::Unread(w) => columns::unread(buf, w),
     }

@@ -13,6 +13,7 @@ use Rattle.forms.specs.declared.Request.{Request}
 use Rattle.forms.specs.declared.Request.the-variants as Q
 use Rattle.forms.specs.Forms.{Form, end, number, signed, whole, judgement, word, readBy}
 use Rattle.solves.specs.Solves.{solveForm}
+use Rattle.looks.specs.Looks.{wheelForm, sightForm}
 
 -- ---- the table
 
@@ -42,7 +43,9 @@ routines =
     word (ascii "root") rootForm
     (word (ascii "c") cForm
     (word (ascii "s") sForm
-    (word (ascii "trial") trialForm (solveForm Q.Solve))))
+    (word (ascii "trial") trialForm
+    (word (ascii "wheel") wheelForm
+    (word (ascii "sight") sightForm (solveForm Q.Solve))))))
 
 -- ---- a line
 

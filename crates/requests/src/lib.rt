@@ -128,6 +128,12 @@ fn routine(name: &[u8], line: &[u8]) -> Request
     if words::is_word(name, b"trial") {
         return trial(line);
     }
+    if words::is_word(name, b"wheel") {
+        return looks::wheel(line);
+    }
+    if words::is_word(name, b"sight") {
+        return looks::sight(line);
+    }
     solve(line)
 }
 

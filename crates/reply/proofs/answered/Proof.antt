@@ -52,11 +52,17 @@ tell-trial-requires c κs = search needs
 enum-known-request-5 : tie.Need-enum-known-request-5
 enum-known-request-5 c = search needs
 
-solved-requires : tie.Need-solved-requires
-solved-requires c κs = search needs
+looked-requires : tie.Need-looked-requires
+looked-requires c κs = search needs
 
 enum-known-request-6 : tie.Need-enum-known-request-6
 enum-known-request-6 c = search needs
+
+solved-requires : tie.Need-solved-requires
+solved-requires c κs = search needs
+
+enum-known-request-7 : tie.Need-enum-known-request-7
+enum-known-request-7 c = search needs
 
 unread-requires : tie.Need-unread-requires
 unread-requires c κs = search needs
@@ -97,13 +103,19 @@ same-length-5 : tie.Need-same-length-5
 same-length-5 c = search needs
 
 returns-6 : tie.Need-returns-6
-returns-6 c = laid-as (ap replyOf (sym (c .before .before .before .before .before .request5 .given .1))) (c .before .before .solved .ensures)
+returns-6 c = laid-as (ap replyOf (sym (c .before .before .before .before .before .request5 .given .1))) (c .before .before .looked .ensures)
 
 same-length-6 : tie.Need-same-length-6
 same-length-6 c = search needs
 
 returns-7 : tie.Need-returns-7
-returns-7 c = laid-as (ap replyOf (sym (c .before .before .before .before .before .request6 .given .1))) (c .before .before .unread .ensures)
+returns-7 c = laid-as (ap replyOf (sym (c .before .before .before .before .before .request6 .given .1))) (c .before .before .solved .ensures)
+
+same-length-7 : tie.Need-same-length-7
+same-length-7 c = search needs
+
+returns-8 : tie.Need-returns-8
+returns-8 c = laid-as (ap replyOf (sym (c .before .before .before .before .before .request7 .given .1))) (c .before .before .unread .ensures)
 
 pub answered-spec : {M : Type 1} → statement M
 answered-spec =
@@ -123,8 +135,10 @@ answered-spec =
     trial-requires
     tell-trial-requires
     enum-known-request-5
-    solved-requires
+    looked-requires
     enum-known-request-6
+    solved-requires
+    enum-known-request-7
     unread-requires
     returns
     same-length
@@ -138,4 +152,6 @@ answered-spec =
     same-length-5
     returns-6
     same-length-6
-    returns-7)
+    returns-7
+    same-length-7
+    returns-8)

@@ -53,11 +53,35 @@ trial-requires c κs = search needs
 returns-4 : tie.Need-returns-4
 returns-4 c = c .trial .ensures ∙ sym (by-word 0 _ _ _ _ (c .before .before .before .before .before .before .before .before .before .before .before .before .before .before .before .pre) (c .before .before .before .before .before .before .before .before .before .before .before .is-word .ensures) (c .before .before .before .before .before .before .before .before .before .before .if1 .left) ∙ by-word 0 _ _ _ _ (c .before .before .before .before .before .before .before .before .before .before .before .before .before .before .before .pre) (c .before .before .before .before .before .before .before .before .is-word2 .ensures) (c .before .before .before .before .before .before .before .if2 .left) ∙ by-word 0 _ _ _ _ (c .before .before .before .before .before .before .before .before .before .before .before .before .before .before .before .pre) (c .before .before .before .before .before .is-word3 .ensures) (c .before .before .before .before .if3 .left) ∙ by-word 0 _ _ _ _ (c .before .before .before .before .before .before .before .before .before .before .before .before .before .before .before .pre) (c .before .before .is-word4 .ensures) (c .before .if4 .taken))
 
+slice-aggregate-is-word-5 : tie.Need-slice-aggregate-is-word-5
+slice-aggregate-is-word-5 c = search needs
+
+is-word-requires-5 : tie.Need-is-word-requires-5
+is-word-requires-5 c κs = search needs
+
+wheel-requires : tie.Need-wheel-requires
+wheel-requires c κs = search needs
+
+returns-5 : tie.Need-returns-5
+returns-5 c = c .wheel .ensures ∙ sym (by-word 0 _ _ _ _ (c .before .before .before .before .before .before .before .before .before .before .before .before .before .before .before .before .before .before .pre) (c .before .before .before .before .before .before .before .before .before .before .before .before .before .before .is-word .ensures) (c .before .before .before .before .before .before .before .before .before .before .before .before .before .if1 .left) ∙ by-word 0 _ _ _ _ (c .before .before .before .before .before .before .before .before .before .before .before .before .before .before .before .before .before .before .pre) (c .before .before .before .before .before .before .before .before .before .before .before .is-word2 .ensures) (c .before .before .before .before .before .before .before .before .before .before .if2 .left) ∙ by-word 0 _ _ _ _ (c .before .before .before .before .before .before .before .before .before .before .before .before .before .before .before .before .before .before .pre) (c .before .before .before .before .before .before .before .before .is-word3 .ensures) (c .before .before .before .before .before .before .before .if3 .left) ∙ by-word 0 _ _ _ _ (c .before .before .before .before .before .before .before .before .before .before .before .before .before .before .before .before .before .before .pre) (c .before .before .before .before .before .is-word4 .ensures) (c .before .before .before .before .if4 .left) ∙ by-word 0 _ _ _ _ (c .before .before .before .before .before .before .before .before .before .before .before .before .before .before .before .before .before .before .pre) (c .before .before .is-word5 .ensures) (c .before .if5 .taken))
+
+slice-aggregate-is-word-6 : tie.Need-slice-aggregate-is-word-6
+slice-aggregate-is-word-6 c = search needs
+
+is-word-requires-6 : tie.Need-is-word-requires-6
+is-word-requires-6 c κs = search needs
+
+sight-requires : tie.Need-sight-requires
+sight-requires c κs = search needs
+
+returns-6 : tie.Need-returns-6
+returns-6 c = c .sight .ensures ∙ sym (by-word 0 _ _ _ _ (c .before .before .before .before .before .before .before .before .before .before .before .before .before .before .before .before .before .before .before .before .before .pre) (c .before .before .before .before .before .before .before .before .before .before .before .before .before .before .before .before .before .is-word .ensures) (c .before .before .before .before .before .before .before .before .before .before .before .before .before .before .before .before .if1 .left) ∙ by-word 0 _ _ _ _ (c .before .before .before .before .before .before .before .before .before .before .before .before .before .before .before .before .before .before .before .before .before .pre) (c .before .before .before .before .before .before .before .before .before .before .before .before .before .before .is-word2 .ensures) (c .before .before .before .before .before .before .before .before .before .before .before .before .before .if2 .left) ∙ by-word 0 _ _ _ _ (c .before .before .before .before .before .before .before .before .before .before .before .before .before .before .before .before .before .before .before .before .before .pre) (c .before .before .before .before .before .before .before .before .before .before .before .is-word3 .ensures) (c .before .before .before .before .before .before .before .before .before .before .if3 .left) ∙ by-word 0 _ _ _ _ (c .before .before .before .before .before .before .before .before .before .before .before .before .before .before .before .before .before .before .before .before .before .pre) (c .before .before .before .before .before .before .before .before .is-word4 .ensures) (c .before .before .before .before .before .before .before .if4 .left) ∙ by-word 0 _ _ _ _ (c .before .before .before .before .before .before .before .before .before .before .before .before .before .before .before .before .before .before .before .before .before .pre) (c .before .before .before .before .before .is-word5 .ensures) (c .before .before .before .before .if5 .left) ∙ by-word 0 _ _ _ _ (c .before .before .before .before .before .before .before .before .before .before .before .before .before .before .before .before .before .before .before .before .before .pre) (c .before .before .is-word6 .ensures) (c .before .if6 .taken))
+
 solve-requires : tie.Need-solve-requires
 solve-requires c κs = search needs
 
-returns-5 : tie.Need-returns-5
-returns-5 c = c .solve .ensures ∙ sym (by-word 0 _ _ _ _ (c .before .before .before .before .before .before .before .before .before .before .before .before .before .before .before .pre) (c .before .before .before .before .before .before .before .before .before .before .before .is-word .ensures) (c .before .before .before .before .before .before .before .before .before .before .if1 .left) ∙ by-word 0 _ _ _ _ (c .before .before .before .before .before .before .before .before .before .before .before .before .before .before .before .pre) (c .before .before .before .before .before .before .before .before .is-word2 .ensures) (c .before .before .before .before .before .before .before .if2 .left) ∙ by-word 0 _ _ _ _ (c .before .before .before .before .before .before .before .before .before .before .before .before .before .before .before .pre) (c .before .before .before .before .before .is-word3 .ensures) (c .before .before .before .before .if3 .left) ∙ by-word 0 _ _ _ _ (c .before .before .before .before .before .before .before .before .before .before .before .before .before .before .before .pre) (c .before .before .is-word4 .ensures) (c .before .if4 .left))
+returns-7 : tie.Need-returns-7
+returns-7 c = c .solve .ensures ∙ sym (by-word 0 _ _ _ _ (c .before .before .before .before .before .before .before .before .before .before .before .before .before .before .before .before .before .before .before .before .before .pre) (c .before .before .before .before .before .before .before .before .before .before .before .before .before .before .before .before .before .is-word .ensures) (c .before .before .before .before .before .before .before .before .before .before .before .before .before .before .before .before .if1 .left) ∙ by-word 0 _ _ _ _ (c .before .before .before .before .before .before .before .before .before .before .before .before .before .before .before .before .before .before .before .before .before .pre) (c .before .before .before .before .before .before .before .before .before .before .before .before .before .before .is-word2 .ensures) (c .before .before .before .before .before .before .before .before .before .before .before .before .before .if2 .left) ∙ by-word 0 _ _ _ _ (c .before .before .before .before .before .before .before .before .before .before .before .before .before .before .before .before .before .before .before .before .before .pre) (c .before .before .before .before .before .before .before .before .before .before .before .is-word3 .ensures) (c .before .before .before .before .before .before .before .before .before .before .if3 .left) ∙ by-word 0 _ _ _ _ (c .before .before .before .before .before .before .before .before .before .before .before .before .before .before .before .before .before .before .before .before .before .pre) (c .before .before .before .before .before .before .before .before .is-word4 .ensures) (c .before .before .before .before .before .before .before .if4 .left) ∙ by-word 0 _ _ _ _ (c .before .before .before .before .before .before .before .before .before .before .before .before .before .before .before .before .before .before .before .before .before .pre) (c .before .before .before .before .before .is-word5 .ensures) (c .before .before .before .before .if5 .left) ∙ by-word 0 _ _ _ _ (c .before .before .before .before .before .before .before .before .before .before .before .before .before .before .before .before .before .before .before .before .before .pre) (c .before .before .is-word6 .ensures) (c .before .if6 .left))
 
 pub routine-spec : {M : Type 1} → statement M
 routine-spec =
@@ -79,5 +103,13 @@ routine-spec =
     is-word-requires-4
     trial-requires
     returns-4
+    slice-aggregate-is-word-5
+    is-word-requires-5
+    wheel-requires
+    returns-5
+    slice-aggregate-is-word-6
+    is-word-requires-6
+    sight-requires
+    returns-6
     solve-requires
-    returns-5)
+    returns-7)
