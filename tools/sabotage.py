@@ -70,6 +70,7 @@ REQUESTS = [
     ("T-13: `<` for `≤` at 1−cosθ = 2^-20", "lambert.c", "1 - l->cosine >= 0x1p-20", "1 - l->cosine > 0x1p-20"),
     ("T-13: row 1 without the normal", "lambert.c", "        must_be_finite_vector(f, of_n, way.normal);\n", "        ;\n"),
     ("T-13: the cross product's normal used", "lambert.c", "    l->normal = normal;\n", "    l->normal = over(u1_u2, length(u1_u2));\n"),
+    ("T-13: 7 ahead of 8", "solve.c", "    if (!carries_time(b.below))", "    if (!carries_time(b.above))\n        return (solution){ .refused = 7 };\n    if (!carries_time(b.below))"),
 ]
 
 
