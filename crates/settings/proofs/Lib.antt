@@ -1,2 +1,4 @@
 pub mod Versions
 pub mod Cases
+pub mod Allows
+pub mod Backs

@@ -11,6 +11,7 @@ use lib.Dec.{leb, eqb}
 use lib.Ieee.{Float, binary64, toBits}
 use Rattle.real.specs.F64.{bits}
 use Rattle.field.specs.Bytes.{field, bytesLe}
+use Rattle.session.specs.Decode.{AllFit}
 use Rattle.text.specs.Pieces.{concat}
 use Rattle.settings.specs.declared.allowed.Setting.{Setting}
 use Rattle.settings.specs.Allowed.{refusalOf}
@@ -64,3 +65,7 @@ versionPieces k x = headPieces k (x .body) ++ numberPieces x
 
 abbrev pub versionBytes : ℕ → Setting → List ℕ
 versionBytes k x = concat (versionPieces k x)
+
+-- a setting as memory holds it: numbers of binary64
+abbrev pub Held : Setting → Type 0
+Held x = AllFit (x .mu ∷ x .radius ∷ x .closed ∷ x .fair ∷ [])
