@@ -74,6 +74,10 @@ module _ (d : List ℕ) (used k r : ℕ) where
           room = room-of (s .2);
         }
 
+-- the place behind a version that was stored lies within the buffer
+pub stored-within : (d : List ℕ) (used : ℕ) (x : Setting) (k r : ℕ) → storedOf d used x ≡ Version k r → r ≤ length d
+stored-within d used x k r h = was d used k r x h .room .within
+
 -- ---- storing
 
 module _ (d : List ℕ) (used : ℕ) (x : Setting) (k r : ℕ) (held : Held x) (h : storedOf d used x ≡ Version k r) where
@@ -168,3 +172,6 @@ module _ (d : List ℕ) (used j k r : ℕ) (h : backOf d used j ≡ Version k r)
 
   pub back-earlier : (i : ℕ) → i < k → lookUp (take r (after (Version k r) d used x)) i ≡ lookUp s i
   back-earlier i g = stored-earlier d used x k r (held-at (drop (44 * (j - 1)) s)) back-stores i g
+
+  pub back-within : r ≤ length d
+  back-within = stored-within d used x k r back-stores
