@@ -1,0 +1,5 @@
+pub mod Cut
+pub mod Whole
+pub mod Parts
+pub mod Steps
+pub mod Opens
