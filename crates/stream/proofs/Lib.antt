@@ -3,3 +3,4 @@ pub mod Whole
 pub mod Parts
 pub mod Steps
 pub mod Opens
+pub mod Calls

@@ -40,11 +40,13 @@ few k d h l true e = let w : ⊥ = omega (arith, front-long k d h (ltb-true 61 k
 few k d h l false e = ltb-false 61 k e
 
 module _ (p : Place) (k : ℕ) (d : List ℕ) where
+  pub sound-by : 62 ≤ length d → foundAt p (take k d) ≡ D.Refused 11 → offsetAllowed (p .offset) ≡ true → Sound p k d
+  sound-by h e o = record { fits = few k d h (short (eqb (p .at) 0) (take k d) e) (ltb 61 k) refl; unfinished = e; allowed = o }
+
   pub sound : 62 ≤ length d → isSound p (take k d) ≡ true → Sound p k d
   sound h s =
       let b = both (offsetAllowed (p .offset)) (isCut (foundAt p (take k d))) s in
-      let u = cut-eleven (foundAt p (take k d)) (b .1) in
-      record { fits = few k d h (short (eqb (p .at) 0) (take k d) u) (ltb 61 k) refl; unfinished = u; allowed = b .0 }
+      sound-by h (cut-eleven (foundAt p (take k d)) (b .1)) (b .0)
 
   pub is-sound : Sound p k d → isSound p (take k d) ≡ true
   is-sound s = rw (s .allowed, s .unfinished) refl

@@ -41,7 +41,7 @@ share-by a n false e = (omega (arith, ltb-false a n e), omega arith)
 pub share-fits : (a n : ℕ) → (cond (ltb a n) a n ≤ a) × (cond (ltb a n) a n ≤ n)
 share-fits a n = share-by a n (ltb a n) refl
 
-take-most : (n : ℕ) (l : List ℕ) → length (take n l) ≤ n
+pub take-most : (n : ℕ) (l : List ℕ) → length (take n l) ≤ n
 take-most zero l = zero-le
 take-most (suc n) [] = zero-le
 take-most (suc n) (x ∷ l) = omega (arith, take-most n l)

@@ -28,5 +28,5 @@ endIn Ended = ended
 -- all parts, and an end call
 pub data Session : Standing → List ℕ → List (List ℕ) → List Reading → Ending → Type 0 where
   done : {x : Standing} {d : List ℕ} → Session x d [] [] (endIn (finishOf x))
-  part : {x : Standing} {d p : List ℕ} {xs : List Reading} {y : Standing} {e : List ℕ} {ps : List (List ℕ)} {ys : List Reading} {w : Ending}
+  more : {x : Standing} {d p : List ℕ} {xs : List Reading} {y : Standing} {e : List ℕ} {ps : List (List ℕ)} {ys : List Reading} {w : Ending}
       → Calls x d p 0 xs y e → Session y e ps ys w → Session x d (p ∷ ps) (xs ++ ys) w
