@@ -4,3 +4,5 @@ pub mod Parts
 pub mod Steps
 pub mod Opens
 pub mod Calls
+pub mod Places
+pub mod Examples

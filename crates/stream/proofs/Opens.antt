@@ -99,14 +99,13 @@ module _ (p : Place) (k : ℕ) (d : List ℕ) where
     is-empty s h l =
         let e = none-left l in
         let a : foundAt p (take k d ++ []) ≡ D.Refused 11 = ap (foundAt p) (append-nil (take k d)) ∙ s .unfinished in
-        let z : length (take k d ++ []) ≡ k = ap length (append-nil (take k d)) ∙ length-take-le k d (omega (arith, s .fits)) in
-        (
+        let z : length (take k d ++ []) ≡ k = ap length (append-nil (take k d)) ∙ length-take-le k d (omega (arith, s .fits)) in (
           ap (λ (j : ℕ). S.Stopped (Open p j)) (sym z)
-          ∙ sym (ap (λ (r : List ℕ). stepIn from (moveFor (foundAt p (take k d ++ take (62 - length (take k d)) r)) p (take k d) r)) e
-          ∙ ap (λ (r : List ℕ). stepIn from (moveFor (foundAt p (take k d ++ r)) p (take k d) [])) (nothing (62 - length (take k d)))
-          ∙ ap (λ (q : Decoded). stepIn from (moveFor q p (take k d) [])) a),
+              ∙ sym (ap (λ (r : List ℕ). stepIn from (moveFor (foundAt p (take k d ++ take (62 - length (take k d)) r)) p (take k d) r)) e
+              ∙ ap (λ (r : List ℕ). stepIn from (moveFor (foundAt p (take k d ++ r)) p (take k d) [])) (nothing (62 - length (take k d)))
+              ∙ ap (λ (q : Decoded). stepIn from (moveFor q p (take k d) [])) a),
           sym (ap (λ (r : List ℕ). take k d ++ (take (62 - k) r ++ drop (k + length (take (62 - k) r)) d)) e
-          ∙ ap (λ (r : List ℕ). take k d ++ (r ++ drop (k + length r) d)) (nothing (62 - k))
-          ∙ ap (λ (j : ℕ). take k d ++ drop j d) (add-zero k)
-          ∙ take-append-drop k d),
+              ∙ ap (λ (r : List ℕ). take k d ++ (r ++ drop (k + length r) d)) (nothing (62 - k))
+              ∙ ap (λ (j : ℕ). take k d ++ drop j d) (add-zero k)
+              ∙ take-append-drop k d),
         )
