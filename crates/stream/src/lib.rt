@@ -20,7 +20,7 @@ const LIMIT: usize = 0x7fff_ffff_ffff_ffff;
 // offset there, and how many of the record's bytes are kept; or it has stopped, with its last answer.
 pub enum Standing {
     Open(Place, usize),
-    Refused(u32, usize),
+    Refused(u8, usize),
     Ended,
 }
 
@@ -165,7 +165,7 @@ fn go_on(place: Place, kept: usize, room: &mut [u8], part: &[u8], from: usize) -
             if number == 11 {
                 return Step::Stopped(Standing::Open(place, seen));
             }
-            Step::Stopped(Standing::Refused(number, at))
+            Step::Stopped(Standing::Refused(number as u8, at))
         }
     }
 }

@@ -14,6 +14,7 @@ use Rattle.session.specs.declared.record.Decoded.the-variants as D
 use Rattle.session.specs.declared.Place.{Place}
 use Rattle.session.proofs.Limits.{offset-small}
 use Rattle.session.proofs.Offsets.{at-offset}
+use Rattle.session.proofs.Refusals.{decode-number}
 use Rattle.stream.specs.declared.Step.the-variants as S
 use Rattle.stream.specs.Stream.{foundAt}
 use Rattle.stream.proofs.Steps.{Lies, inner, filled, record-fits, is-record, offset-within, is-offset, is-cut-short, is-refused, kept-short}
@@ -108,6 +109,16 @@ returns c =
     let i : foundAt (a .place) (take n e) ≡ D.Refused (c .before .before .number .given .0 .0) = sym (c .before .before .before .before .decode-at .ensures) ∙ c .before .before .number .given .1 in
     (is-cut-short g (i ∙ ap D.Refused (c .if1 .taken)), filled g)
 
+cast-t29 : tie.Need-cast-t29
+cast-t29 c =
+    let p = c .before .before .before .before .before .before .before .before .before .before .before .before .before .pre in
+    let a = c .before .before .before .before .before .before .before .before .before .before .before .before .before .args in
+    let n = c .before .before .before .before .before .before .before .before .add .result in
+    let e = c .before .before .before .before .before .before .before .before .add .last .1 .0 in
+    let g : Lies (a .place) (a .kept) (a .from) n (now (a .room)) (now (a .part)) e = record { fits = p .2; unfinished = p .3; allowed = p .4; stands = c .before .before .before .before .before .before .before .before .add .ensures } in
+    let i : foundAt (a .place) (take n e) ≡ D.Refused (c .before .before .number .given .0 .0) = sym (c .before .before .before .before .decode-at .ensures) ∙ c .before .before .number .given .1 in
+    omega (arith, decode-number (eqb (a .place .at) 0) (take n e) (c .before .before .number .given .0 .0) i .1)
+
 same-length-2 : tie.Need-same-length-2
 same-length-2 c = search needs
 
@@ -170,6 +181,7 @@ go-on-spec =
     enum-known-number
     same-length
     returns
+    cast-t29
     same-length-2
     returns-2
     same-length-3
