@@ -3,11 +3,11 @@ use Prim.Native.Nat.{ℕ, zero, suc, _+_, _-_, _≤_, _<_, zero-le}
 use native.Mathlib.Omega.{arith}
 use mathlib.Core.Path.{_≡_, refl, sym, ap, _∙_}
 use mathlib.Core.List.{List, [], _∷_, _++_, append-assoc}
-use mathlib.Core.Bool.{Bool, true, false, cond}
+use mathlib.Core.Bool.{Bool, true, false, cond, not}
 use lib.ListN.{length, take, drop, length-append, length-drop}
 use lib.Seq.{drop-drop, take-at, length-take-le}
 use lib.Dec.{ltb, eqb}
-use borrow.Author.Tests.{lt-ltb, le-ltb, ne-eqb, eqb-true}
+use borrow.Author.Tests.{lt-ltb, le-ltb, ltb-false, ne-eqb, eqb-true}
 use Rattle.text.specs.Text.{Stands}
 use Rattle.text.proofs.Stand.{same-size}
 use Rattle.session.specs.declared.record.Record.{Record}
@@ -22,11 +22,11 @@ use Rattle.stream.specs.declared.Standing.{Standing}
 use Rattle.stream.specs.declared.Standing.the-variants.{Open, Refused, Ended}
 use Rattle.stream.specs.declared.Step.{Step}
 use Rattle.stream.specs.declared.Step.the-variants as S
-use Rattle.stream.specs.Stream.{Ending, ended, refused, Run, stop, behind, joined, wholeOf, Reader, reading, stopped, Move, got, set, none, limit, foundAt, seen, moveFor, moveOf, endOf, concat, standingOf, stepIn, put, roomOn, stepOn, stepOpen, roomOpen, stepOf, roomOf, finishOf}
+use Rattle.stream.specs.Stream.{Ending, ended, refused, Run, stop, behind, joined, wholeOf, Reader, reading, stopped, Move, got, set, none, limit, foundAt, seen, moveFor, moveOf, endOf, concat, standingOf, isSound, stepIn, put, roomOn, stepOn, stepOpen, roomOpen, stepOf, roomOf, finishOf}
 use Rattle.stream.specs.Calls.{Calls, last, next, sets, endIn, Session, done, more}
 use Rattle.stream.proofs.Parts.{leftOf, Kept, taken, Goes, Stays, After, move-law, end-law, joins, all-seen}
 use Rattle.stream.proofs.Steps.{take-most}
-use Rattle.stream.proofs.Opens.{Sound, sound-by, is-sound, is-over, is-passed}
+use Rattle.stream.proofs.Opens.{Sound, sound-by, sound, is-sound, is-over, is-passed}
 
 -- the reader that code has
 abbrev pub readerOf : Standing → List ℕ → Reader
@@ -167,6 +167,50 @@ offset-by x rest from (set q' n) q at a w =
     let j : q ≡ q' = cc in let l : at ≡ from + n = cc in
     record { used = n; goes = rw j a; place = l }
 offset-by x rest from (none z) q at a w = let z : _≡_ {A = ℕ} 0 1 = cc in let v : ⊥ = omega arith in absurd v
+
+-- a step that is not the last of its part passed every test
+abbrev isStop : Step → Bool
+isStop (S.Record r q at) = false
+isStop (S.Offset q at) = false
+isStop (S.Stopped y) = true
+
+stuck : {X : Type 0} (s : Step) → isStop s ≡ true → isStop s ≡ false → X
+stuck s a b = let z : _≡_ {A = ℕ} 0 1 = ap (λ (c : Bool). cond c 0 1) (sym a ∙ b) in let w : ⊥ = omega arith in absurd w
+
+tests-by : (a b c : Bool) (u v z s : Step) → isStop u ≡ true → isStop v ≡ true → s ≡ cond a u (cond b u (cond (not c) v z)) → isStop s ≡ false
+    → (a ≡ false) × (b ≡ false) × (c ≡ true)
+tests-by true b c u v z s i j e h = stuck u i (ap isStop (sym e) ∙ h)
+tests-by false true c u v z s i j e h = stuck u i (ap isStop (sym e) ∙ h)
+tests-by false false false u v z s i j e h = stuck v j (ap isStop (sym e) ∙ h)
+tests-by false false true u v z s i j e h = (refl, refl, refl)
+
+passed-all : (x : Standing) (d part : List ℕ) (from : ℕ) (s : Step) → s ≡ stepOf x d part from → isStop s ≡ false
+    → Ready x d × (taken (readerOf x d) + length (drop from part) ≤ limit)
+passed-all (Open p k) d part from s e h =
+    let t = tests-by (ltb limit (p .at + k + length (drop from part))) (ltb (length d) 62) (isSound p (take k d)) (S.Stopped (Refused 15 (p .at))) (S.Stopped (Refused 14 (p .at))) (stepOn p k d part from) s refl refl e h in
+    let r = ltb-false (length d) 62 (t .1) in
+    let o = sound p k d r (t .2) in
+    let l = length-take-le k d (omega (arith, o .fits, r)) in
+    (record { room = r; stood = o }, omega (arith, l, ltb-false limit (p .at + k + length (drop from part)) (t .0)))
+passed-all (Refused n at) d part from s e h = stuck s (ap isStop e) h
+passed-all Ended d part from s e h = stuck s (ap isStop e) h
+
+-- a record moves the place on, and not past the end of the part: whatever is kept, in whatever room
+pub record-forth : (x : Standing) (d part : List ℕ) (from : ℕ) (r : Record) (q : Place) (at : ℕ) → S.Record r q at ≡ stepOf x d part from → (from < at) × (at ≤ length part)
+record-forth x d part from r q at e =
+    let w = passed-all x d part from (S.Record r q at) e refl in
+    let m = same x d part from (w .0) (w .1) in
+    let g = record-by (readerOf x d) (drop from part) from (m .move) r q at (m .after) (e ∙ m .step) in
+    let l = length-drop from part in
+    (omega (arith, g .place, g .goes .some), omega (arith, g .place, g .goes .some, g .goes .inside, l))
+
+pub offset-forth : (x : Standing) (d part : List ℕ) (from : ℕ) (q : Place) (at : ℕ) → S.Offset q at ≡ stepOf x d part from → (from < at) × (at ≤ length part)
+offset-forth x d part from q at e =
+    let w = passed-all x d part from (S.Offset q at) e refl in
+    let m = same x d part from (w .0) (w .1) in
+    let g = offset-by (readerOf x d) (drop from part) from (m .move) q at (m .after) (e ∙ m .step) in
+    let l = length-drop from part in
+    (omega (arith, g .place, g .goes .some), omega (arith, g .place, g .goes .some, g .goes .inside, l))
 
 -- what is left of the part behind it
 behind-it : {x : Reader} (p : List ℕ) {b : Reading} {q : Place} {from at : ℕ} (g : Went x (drop from p) b q from at) → drop (g .used) (drop from p) ≡ drop at p
