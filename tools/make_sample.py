@@ -54,13 +54,14 @@ def decode(s, first):
     return (time, vehicle, kind), length
 
 
-def listing(s):
+def listing(s, limit=65536):
+    """The listing of a session; without a limit (None) that of a session as it comes."""
     lines, at, minutes = ['day cs vehicle kind'], 0, 0
-    if len(s) > 65536:
+    if limit is not None and len(s) > limit:
         lines.append('refused 12 at 0')
         at = len(s)
     while at < len(s):
-        got = decode(s[at:], at == 0)
+        got = decode(s[at:at + 62], at == 0)
         if isinstance(got, int):
             lines.append('refused %d at %d' % (got, at))
             break
@@ -129,6 +130,8 @@ def files():
         'samples/night.bin': night(),
         'crates/listing/data/session': refused,
         'crates/listing/stdout': listing(refused),
+        'crates/watch/stdin': refused,
+        'crates/watch/stdout': listing(refused, None),
     }
 
 
