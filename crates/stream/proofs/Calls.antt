@@ -26,7 +26,7 @@ use Rattle.stream.specs.Stream.{Ending, ended, refused, Run, stop, behin
 use Rattle.stream.specs.Calls.{Calls, last, next, sets, endIn, Session, done, more}
 use Rattle.stream.proofs.Parts.{leftOf, Kept, taken, Goes, Stays, After, move-law, end-law, joins, all-seen}
 use Rattle.stream.proofs.Steps.{take-most}
-use Rattle.stream.proofs.Opens.{Sound, sound-by, sound, is-sound, is-over, is-passed}
+use Rattle.stream.proofs.Opens.{Sound, sound-by, sound, is-sound, is-over, is-passed, is-empty}
 
 -- the reader that code has
 abbrev pub readerOf : Standing → List ℕ → Reader
@@ -266,6 +266,18 @@ session-law (more {x} {d} {p} {xs} {y} {e} {ps} {ys} {w} cs rest) s h =
 pub reads-whole : {d : List ℕ} {ps : List (List ℕ)} {xs : List Reading} {w : Ending} → 62 ≤ length d → Session (Open start 0) d ps xs w
     → length (concat ps) ≤ limit → _≡_ {A = Run} (record { readings = xs; ending = w }) (wholeOf (concat ps))
 reads-whole {d} r s h = session-law s (open-ready start d r refl) (omega arith)
+
+-- an empty part, and one with no byte left, changes nothing
+pub empty-part : (x : Standing) (d part : List ℕ) (from : ℕ) → Ready x d → taken (readerOf x d) ≤ limit → length part ≤ from
+    → (stepOf x d part from ≡ S.Stopped x) × (roomOf x d part from ≡ d)
+empty-part (Open p k) d part from y h l =
+    let s = y .stood in
+    let c = le-ltb limit (p .at + k + (length part - from)) (omega (arith, h, length-take-le k d (omega (arith, s .fits, y .room)))) in
+    let a = is-passed p k d part from c (y .room) (is-sound p k d s) in
+    let b = is-empty p k d part from s (y .room) l in
+    (sym (b .0 ∙ a .0), sym (b .1 ∙ a .1))
+empty-part (Refused n at) d part from y h l = (refl, refl)
+empty-part Ended d part from y h l = (refl, refl)
 
 -- a count over its limit is 15, ahead of all but a repeated answer: whatever is kept, in whatever room
 pub over : (p : Place) (k : ℕ) (d part : List ℕ) (from : ℕ) → limit < p .at + k + (length part - from)
