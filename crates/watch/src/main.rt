@@ -41,10 +41,10 @@ fn write_step(step: Step) -> bool {
     }
 }
 
-// Where the reader stands behind some input, or that a line could not be written.
+// Where the reader stands behind some input; or something could not be read or written, and standard error says what.
 enum Fed {
     Read(Standing),
-    Unwritten,
+    Failed,
 }
 
 // Lists the records that end in the input.
@@ -56,7 +56,7 @@ fn feed(state: Standing, room: &mut [u8], input: &[u8]) -> Fed
     loop {
         let step = stream::take_next(x, room, input, from);
         if !write_step(step) {
-            return Fed::Unwritten;
+            return Fed::Failed;
         }
         match step {
             Step::Record(_, place, at) => {
@@ -78,7 +78,7 @@ fn take_some(state: Standing, room: &mut [u8]) -> Fed {
     let got = libc::read(STDIN_FILENO, &mut input);
     if got < 0 {
         os::fail(b"standard input");
-        return Fed::Unwritten;
+        return Fed::Failed;
     }
     if got == 0 {
         let last = stream::finish(state);
