@@ -43,7 +43,7 @@ abbrev pub endingOf : List ℕ → ℕ → ℕ → Ending
 endingOf [] n at = ended
 endingOf (b ∷ s) n at = refused n at
 
--- the place behind a record, and behind the offset's record, which is first
+-- the place behind a record of n bytes, where the same offset holds
 abbrev pub past : Place → ℕ → Place
 past p n = record { at = p .at + n; offset = p .offset }
 
@@ -134,7 +134,7 @@ unfoldable pub concat : List (List ℕ) → List ℕ
 concat [] = []
 concat (p ∷ ps) = p ++ concat ps
 
--- The reader that code has: the kept bytes are the front of a room.
+-- The reader as code has it: the kept bytes are the front of a room.
 abbrev pub standingOf : Reader → Standing
 standingOf (reading p kept) = Open p (length kept)
 standingOf (stopped ended) = Ended
@@ -146,12 +146,13 @@ stepIn from (got r q n) = S.Record r q (from + n)
 stepIn from (set q n) = S.Offset q (from + n)
 stepIn from (none x) = S.Stopped (standingOf x)
 
--- what is kept is the front of an unfinished record, and the offset is allowed: no reader stands anywhere else
+-- a record that is cut short
 abbrev pub isCut : Decoded → Bool
 isCut (D.Whole r n) = false
 isCut (D.Offset z) = false
 isCut (D.Refused n) = eqb n 11
 
+-- what is kept is the front of an unfinished record, and the offset is allowed: no reader stands anywhere else
 abbrev pub isSound : Place → List ℕ → Bool
 isSound p kept = offsetAllowed (p .offset) && isCut (foundAt p kept)
 
