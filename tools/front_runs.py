@@ -6,6 +6,7 @@ Where something has to be built, the front is copied to a room of its own with a
 handing out a program that is proved already."""
 import os
 import pathlib
+import pty
 import re
 import resource
 import select
@@ -14,9 +15,10 @@ import subprocess
 import sys
 import tempfile
 import time
+import tty
 
 sys.path.insert(0, str(pathlib.Path(__file__).parent))
-from make_sample import listing, sample
+from make_sample import listing, night, sample
 
 ROOT = pathlib.Path(__file__).resolve().parent.parent
 SAMPLE = ROOT / "samples" / "session.bin"
@@ -296,6 +298,22 @@ def _():
         coming.send(b"\x26\x00\x09\x00")
         assert coming.line() == b"refused 13 at 162\n"
         assert coming.front.wait(30) == 1, coming.front.stderr.read()
+
+
+@case("a serial line is listed as it comes; one that breaks gives 2, and the lines stand")
+def _():
+    end, line = pty.openpty()
+    tty.setraw(line)
+    ran = subprocess.Popen([ROOT / "cabin", "watch"], stdin=line, stdout=subprocess.PIPE, stderr=subprocess.PIPE)
+    os.close(line)
+    assert ran.stdout.readline() == listing(b"")
+    os.write(end, night()[:8 + 62])
+    assert ran.stdout.readline() == b"4 8580000 0 state\n"
+    os.write(end, night()[8 + 62:8 + 62 + 62])
+    assert ran.stdout.readline() == b"4 8580000 1 state\n"
+    os.close(end)
+    wrote, said = ran.communicate(timeout=60)
+    hold((ran.returncode, wrote, said.decode()), 2, b"", "standard input")
 
 
 @case("a session as it comes is added to a file, which stays")
