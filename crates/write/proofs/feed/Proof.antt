@@ -1,99 +1,98 @@
+-- Each line is entered; what is left of the input falls. Assumes nothing.
+use Prim.Native.Nat.{_-_}
+use native.Mathlib.Omega.{arith}
+use mathlib.Core.Path.{sym, _∙_}
+use lib.ListN.{length}
+use lib.Seq.{length-take-le}
+use borrow.Author.Needs.{needs}
+use Rattle.write.proofs.Turned.{Left, begin, line-size, line-short, line-forth, on, ends-unread, ends-refused, rest}
 use Rattle.write.proofs.feed.Statement.{statement}
 use Rattle.write.proofs.feed.Tie as tie
-use Rattle.write.proofs.feed.Reads as reads
-use Rattle.write.proofs.feed.Lts as lts
-use Rattle.book.proofs.add.Reads as add-reads
-use Rattle.split.proofs.next_line.Reads as next-line-reads
 
 abbrev Inv-loop : tie.InvT-loop
-Inv-loop input line₀ kept session₀ at count k₀ from₀ place₀ n₀ line session k from place n = ?
+Inv-loop input line₀ kept session₀ at count k₀ from₀ place₀ n₀ line session k from place n = Left input line₀ kept session₀ at count line k from session place n
 
 abbrev μ-loop : tie.MeasureT-loop
-μ-loop input line₀ kept session₀ at count k₀ from₀ place₀ n₀ line session k from place n = ?
+μ-loop input line₀ kept session₀ at count k₀ from₀ place₀ n₀ line session k from place n = length input - from
 
--- src/main.rt:32:5
 loop-holds : tie.Need-loop-holds Inv-loop μ-loop
-loop-holds c = ?
+loop-holds c =
+    begin _ _ _ _ _ _ (c .before .before .before .pre .0) (c .before .before .before .pre .1)
 
--- src/main.rt:33:15
 next-line-requires : tie.Need-next-line-requires Inv-loop μ-loop
-next-line-requires c κs = ?
+next-line-requires c κs = tt
 
--- src/main.rt:34:25
 enum-known-size : tie.Need-enum-known-size Inv-loop μ-loop
-enum-known-size c = ?
+enum-known-size c = search needs
 
--- src/main.rt:35:52
 slice-reshare-prefix-add : tie.Need-slice-reshare-prefix-add Inv-loop μ-loop
-slice-reshare-prefix-add c = ?
+slice-reshare-prefix-add c =
+    line-short (c .before .before .before .before .before .before .before .before .loop .inv) (c .before .before .before .before .before .before .next-line .ensures .1) (c .before .before .size .given .0 .0) (c .before .before .size .given .0 .1 .0) (sym (c .before .before .size .given .1) ∙ c .before .before .before .before .before .before .next-line .ensures .0)
 
--- src/main.rt:35:52
 slice-aggregate-add : tie.Need-slice-aggregate-add Inv-loop μ-loop
-slice-aggregate-add c = ?
+slice-aggregate-add c =
+    sym (length-take-le _ _ (line-short (c .before .before .before .before .before .before .before .before .before .loop .inv) (c .before .before .before .before .before .before .before .next-line .ensures .1) (c .before .before .before .size .given .0 .0) (c .before .before .before .size .given .0 .1 .0) (sym (c .before .before .before .size .given .1) ∙ c .before .before .before .before .before .before .before .next-line .ensures .0)))
 
--- src/main.rt:35:23
 add-requires : tie.Need-add-requires Inv-loop μ-loop
-add-requires c κs = ?
+add-requires c κs = search needs
 
--- src/main.rt:36:33
 enum-known-a : tie.Need-enum-known-a Inv-loop μ-loop
-enum-known-a c = ?
+enum-known-a c = search needs
 
--- src/main.rt:40:34
 enum-known-l : tie.Need-enum-known-l Inv-loop μ-loop
-enum-known-l c = ?
+enum-known-l c = search needs
 
--- src/main.rt:40:43
 same-length : tie.Need-same-length Inv-loop μ-loop
-same-length c = ?
+same-length c =
+    line-size (c .before .before .before .before .before .before .before .before .before .before .before .before .before .before .before .loop .inv) (c .before .before .before .before .before .before .before .before .before .before .before .before .before .next-line .ensures .1) (c .before .before .before .before .before .before .before .before .before .size .given .0 .0) (c .before .before .before .before .before .before .before .before .before .size .given .0 .1 .0) (sym (c .before .before .before .before .before .before .before .before .before .size .given .1) ∙ c .before .before .before .before .before .before .before .before .before .before .before .before .before .next-line .ensures .0)
 
--- src/main.rt:40:43
 same-length-2 : tie.Need-same-length-2 Inv-loop μ-loop
-same-length-2 c = ?
+same-length-2 c =
+    c .before .before .before .before .before .add .kept .0 ∙ c .before .before .before .before .before .before .before .before .before .before .before .before .before .before .before .loop .inv .wide
 
--- src/main.rt:40:43
 returns : tie.Need-returns Inv-loop μ-loop
-returns c = ?
+returns c =
+    (tt, ends-unread (c .before .before .before .before .before .before .before .before .before .before .before .before .before .before .before .loop .inv) (c .before .before .before .before .before .before .before .before .before .before .before .before .before .next-line .ensures .1) (c .before .before .before .before .before .before .before .before .before .size .given .0 .0) (c .before .before .before .before .before .before .before .before .before .size .given .0 .1 .0) (sym (c .before .before .before .before .before .before .before .before .before .size .given .1) ∙ c .before .before .before .before .before .before .before .before .before .before .before .before .before .next-line .ensures .0) (c .before .before .before .before .before .add .ensures .0) (c .before .before .before .before .before .add .ensures .1) (c .before .l .given .0 .0) (c .before .l .given .0 .1 .0) (c .before .l .given .1))
 
--- src/main.rt:41:35
 enum-known-l-2 : tie.Need-enum-known-l-2 Inv-loop μ-loop
-enum-known-l-2 c = ?
+enum-known-l-2 c = search needs
 
--- src/main.rt:41:44
 same-length-3 : tie.Need-same-length-3 Inv-loop μ-loop
-same-length-3 c = ?
+same-length-3 c =
+    line-size (c .before .before .before .before .before .before .before .before .before .before .before .before .before .before .before .loop .inv) (c .before .before .before .before .before .before .before .before .before .before .before .before .before .next-line .ensures .1) (c .before .before .before .before .before .before .before .before .before .size .given .0 .0) (c .before .before .before .before .before .before .before .before .before .size .given .0 .1 .0) (sym (c .before .before .before .before .before .before .before .before .before .size .given .1) ∙ c .before .before .before .before .before .before .before .before .before .before .before .before .before .next-line .ensures .0)
 
--- src/main.rt:41:44
 same-length-4 : tie.Need-same-length-4 Inv-loop μ-loop
-same-length-4 c = ?
+same-length-4 c =
+    c .before .before .before .before .before .add .kept .0 ∙ c .before .before .before .before .before .before .before .before .before .before .before .before .before .before .before .loop .inv .wide
 
--- src/main.rt:41:44
 returns-2 : tie.Need-returns-2 Inv-loop μ-loop
-returns-2 c = ?
+returns-2 c =
+    (tt, ends-refused (c .before .before .before .before .before .before .before .before .before .before .before .before .before .before .before .loop .inv) (c .before .before .before .before .before .before .before .before .before .before .before .before .before .next-line .ensures .1) (c .before .before .before .before .before .before .before .before .before .size .given .0 .0) (c .before .before .before .before .before .before .before .before .before .size .given .0 .1 .0) (sym (c .before .before .before .before .before .before .before .before .before .size .given .1) ∙ c .before .before .before .before .before .before .before .before .before .before .before .before .before .next-line .ensures .0) (c .before .before .before .before .before .add .ensures .0) (c .before .before .before .before .before .add .ensures .1) (c .before .l2 .given .0 .0) (c .before .l2 .given .0 .1 .0) (c .before .l2 .given .1))
 
--- src/main.rt:32:5
 loop-less : tie.Need-loop-less Inv-loop μ-loop
-loop-less c = ?
+loop-less c =
+    let x = line-forth (c .before .before .before .before .before .before .before .before .before .before .before .before .before .before .before .loop .inv) (c .before .before .before .before .before .before .before .before .before .before .before .before .before .next-line .ensures .1) (c .before .before .before .before .before .before .before .before .before .size .given .0 .0) (c .before .before .before .before .before .before .before .before .before .size .given .0 .1 .0) (sym (c .before .before .before .before .before .before .before .before .before .size .given .1) ∙ c .before .before .before .before .before .before .before .before .before .before .before .before .before .next-line .ensures .0) in
+    omega (arith, x .0, x .1)
 
--- src/main.rt:32:5
 loop-again : tie.Need-loop-again Inv-loop μ-loop
-loop-again c = ?
+loop-again c =
+    on (c .before .before .before .before .before .before .before .before .before .before .before .before .before .before .before .loop .inv) (c .before .before .before .before .before .before .before .before .before .before .before .before .before .next-line .ensures .1) (c .before .before .before .before .before .before .before .before .before .size .given .0 .0) (c .before .before .before .before .before .before .before .before .before .size .given .0 .1 .0) (sym (c .before .before .before .before .before .before .before .before .before .size .given .1) ∙ c .before .before .before .before .before .before .before .before .before .before .before .before .before .next-line .ensures .0) (c .before .before .before .before .before .add .ensures .0) (c .before .before .before .before .before .add .ensures .1) (c .before .a .given .0 .0) (c .before .a .given .0 .1 .0) (c .before .a .given .1) (c .before .before .before .before .before .add .kept .0)
 
--- src/main.rt:46:25
 enum-known-size-2 : tie.Need-enum-known-size-2 Inv-loop μ-loop
-enum-known-size-2 c = ?
+enum-known-size-2 c = search needs
 
--- src/main.rt:46:34
 same-length-5 : tie.Need-same-length-5 Inv-loop μ-loop
-same-length-5 c = ?
+same-length-5 c =
+    rest (c .before .before .before .before .before .before .before .loop .inv) (c .before .before .before .before .before .next-line .ensures .1) (c .before .size2 .given .0 .0) (sym (c .before .size2 .given .1) ∙ c .before .before .before .before .before .next-line .ensures .0) .0
 
--- src/main.rt:46:34
 same-length-6 : tie.Need-same-length-6 Inv-loop μ-loop
-same-length-6 c = ?
+same-length-6 c =
+    c .before .before .before .before .before .before .before .loop .inv .wide
 
--- src/main.rt:46:34
 returns-3 : tie.Need-returns-3 Inv-loop μ-loop
-returns-3 c = ?
+returns-3 c =
+    let x = rest (c .before .before .before .before .before .before .before .loop .inv) (c .before .before .before .before .before .next-line .ensures .1) (c .before .size2 .given .0 .0) (sym (c .before .size2 .given .1) ∙ c .before .before .before .before .before .next-line .ensures .0) in
+    ((x .1, c .before .before .before .before .before .before .before .loop .inv .within), x .2)
 
 pub feed-spec : {M : Type 1} → statement M
 feed-spec =
