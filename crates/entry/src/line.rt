@@ -78,12 +78,16 @@ fn body(line: &[u8], time: i64, vehicle: u64) -> Entry
                         vy: v.y,
                         vz: v.z,
                     };
-                    only(line, 10, Entry::State {
-                        time,
-                        vehicle,
-                        body,
-                        state,
-                    })
+                    only(
+                        line,
+                        10,
+                        Entry::State {
+                            time,
+                            vehicle,
+                            body,
+                            state,
+                        },
+                    )
                 }
                 Triple::Unread(w) => Entry::Unread(w),
             },
@@ -107,11 +111,15 @@ fn burn(line: &[u8]) -> Entry
 {
     match stamp_at(line) {
         Stamp::Read(time, vehicle) => match vector_at(line, 3) {
-            Triple::Read(change) => only(line, 6, Entry::Burn {
-                time,
-                vehicle,
-                change,
-            }),
+            Triple::Read(change) => only(
+                line,
+                6,
+                Entry::Burn {
+                    time,
+                    vehicle,
+                    change,
+                },
+            ),
             Triple::Unread(w) => Entry::Unread(w),
         },
         Stamp::Unread(w) => Entry::Unread(w),
@@ -123,12 +131,16 @@ fn mark(line: &[u8]) -> Entry
 {
     match stamp_at(line) {
         Stamp::Read(time, vehicle) => match pair_at(line, 3) {
-            Pair::Read(range, rate) => only(line, 5, Entry::Mark {
-                time,
-                vehicle,
-                range,
-                rate,
-            }),
+            Pair::Read(range, rate) => only(
+                line,
+                5,
+                Entry::Mark {
+                    time,
+                    vehicle,
+                    range,
+                    rate,
+                },
+            ),
             Pair::Unread(w) => Entry::Unread(w),
         },
         Stamp::Unread(w) => Entry::Unread(w),

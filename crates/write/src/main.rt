@@ -21,7 +21,14 @@ enum Fed {
 }
 
 // Enters the lines that end in the input.
-fn feed(input: &[u8], line: &mut [u8], kept: usize, session: &mut [u8], at: usize, count: u64) -> Fed
+fn feed(
+    input: &[u8],
+    line: &mut [u8],
+    kept: usize,
+    session: &mut [u8],
+    at: usize,
+    count: u64,
+) -> Fed
     requires { ⌜ (kept ≤ length (now line)) × (at ≤ length (now session)) ⌝ }
     ensures { λ r. ⌜ Inside r (length (now (line .exit))) (length (now (session .exit))) × Feeds (now (input .entry)) (now (line .entry)) kept (now (session .entry)) at count (now (line .exit)) (now (session .exit)) r ⌝ }
 {
