@@ -1,0 +1,3 @@
+pub mod Joined
+pub mod Read
+pub mod Retold
