@@ -26,12 +26,19 @@ use Rattle.numerals.specs.declared.digits.Whole.{Whole}
 use Rattle.numerals.specs.declared.digits.Whole.the-variants as W
 use Rattle.numerals.specs.declared.digits.Signed.{Signed}
 use Rattle.numerals.specs.declared.digits.Signed.the-variants as S
+use Rattle.figures.proofs.Lengths.{bits-short}
+use Rattle.text.proofs.Decimals.{at-most}
+use Rattle.script.proofs.Lengths.{signed-most}
+use Rattle.session.specs.Layout.{allFinite}
+use Rattle.session.specs.Decode.{AllFit}
+use Rattle.session.proofs.Numbers.{both}
+use Rattle.session.proofs.WriteBack.{not-nan}
 use Rattle.session.specs.declared.record.Record.{Record}
 use Rattle.session.specs.declared.record.Record.the-variants as R
 use Rattle.entry.specs.declared.line.Entry.{Entry}
 use Rattle.entry.specs.declared.line.Entry.the-variants.{Nothing, Offset, State, Burn, Mark, Unread}
 use Rattle.entry.specs.Parts.{isEnd}
-use Rattle.entry.specs.Entries.{ended, entryOf, namedOf}
+use Rattle.entry.specs.Entries.{ended, offsetOf, stateOf, burnOf, markOf, entryOf, namedOf}
 use Rattle.retold.proofs.Joined.{clean, some, behind, line, Words, first, word-at}
 use Rattle.retold.proofs.Read.{whole-back, decimal-clean, some-decimal, signed-some, signed-clean, signed-back, bits-some, bits-clean, bits-back}
 
@@ -53,3 +60,102 @@ row-behind (x ∷ xs) = ap (λ (l : List ℕ). 32 ∷ (bitsOf x ++ l)) (row-behi
 pub patterns-words : (xs : List Float) → Numbers xs → Words (patterns xs)
 patterns-words [] h = h
 patterns-words (x ∷ xs) h = (bits-some x (h .0) (h .1), bits-clean x (h .0) (h .1), patterns-words xs (h .2))
+
+-- numbers as memory holds them, all finite
+numbers-from : (xs : List Float) → AllFit xs → allFinite xs ≡ true → Numbers xs
+unfolding allFinite
+numbers-from [] h g = h
+numbers-from (x ∷ xs) h g =
+    let b = both (finite x) (allFinite xs) g in
+    (h .0, not-nan x (b .0), numbers-from xs (h .1) (b .1))
+
+-- ---- a line by its name
+
+entry-named : (l name : List ℕ) → startsWith l (ascii "#") ≡ false → length l ≤ 1000 → wordAt 0 l ≡ name → eqb (length name) 0 ≡ false → entryOf l ≡ namedOf name l
+unfolding entryOf
+entry-named l name s h w e = rw (s, le-ltb 1000 (length l) h, w, e) refl
+
+named-offset : (l : List ℕ) → namedOf (ascii "offset") l ≡ offsetOf l
+unfolding isWord startsWith
+named-offset l = refl
+
+named-state : (l : List ℕ) → namedOf (ascii "state") l ≡ stateOf l
+unfolding isWord startsWith
+named-state l = refl
+
+named-burn : (l : List ℕ) → namedOf (ascii "burn") l ≡ burnOf l
+unfolding isWord startsWith
+named-burn l = refl
+
+named-mark : (l : List ℕ) → namedOf (ascii "mark") l ≡ markOf l
+unfolding isWord startsWith
+named-mark l = refl
+
+-- ---- what the words of a line say
+
+module _ (l : List ℕ) {t : ℤ} (a : signedOf (wordAt 1 l) ≡ S.Read t) where
+  offset-by : isEnd 2 l ≡ true → offsetOf l ≡ Offset t
+  unfolding ended
+  offset-by e = rw (a, e) refl
+
+  module _ {v : ℕ} (b : wholeOf (wordAt 2 l) ≡ W.Read v) where
+    mark-by : {x y : Float} → numberOf (wordAt 3 l) ≡ N.Read x → numberOf (wordAt 4 l) ≡ N.Read y → isEnd 5 l ≡ true → markOf l ≡ Mark t v x y
+    unfolding ended
+    mark-by p q e = rw (a, b, p, q, e) refl
+
+    burn-by : {x y z : Float} → numberOf (wordAt 3 l) ≡ N.Read x → numberOf (wordAt 4 l) ≡ N.Read y → numberOf (wordAt 5 l) ≡ N.Read z → isEnd 6 l ≡ true
+        → burnOf l ≡ Burn t v (record { x = x; y = y; z = z })
+    unfolding ended
+    burn-by p q r e = rw (a, b, p, q, r, e) refl
+
+    state-by : {n : ℕ} {x y z u v′ w : Float} → wholeOf (wordAt 3 l) ≡ W.Read n → numberOf (wordAt 4 l) ≡ N.Read x → numberOf (wordAt 5 l) ≡ N.Read y
+        → numberOf (wordAt 6 l) ≡ N.Read z → numberOf (wordAt 7 l) ≡ N.Read u → numberOf (wordAt 8 l) ≡ N.Read v′ → numberOf (wordAt 9 l) ≡ N.Read w → isEnd 10 l ≡ true
+        → stateOf l ≡ State t v n (record { rx = x; ry = y; rz = z; vx = u; vy = v′; vz = w })
+    unfolding ended
+    state-by d p q r i j k e = rw (a, b, d, p, q, r, i, j, k, e) refl
+
+-- ---- the words of a line
+
+no-more : (k : ℕ) (ws : List (List ℕ)) → Words ws → first (drop k ws) ≡ [] → isEnd k (line ws) ≡ true
+no-more k ws h e = ap (λ (w : List ℕ). eqb (length w) 0) (word-at k ws h ∙ e)
+
+signed-word : (k : ℕ) (ws : List (List ℕ)) → Words ws → (z : ℤ) → mag z < 2 ^ 63 → first (drop k ws) ≡ signedText z → signedOf (wordAt k (line ws)) ≡ S.Read z
+signed-word k ws h z m e = ap signedOf (word-at k ws h ∙ e) ∙ signed-back z m
+
+whole-word : (k : ℕ) (ws : List (List ℕ)) → Words ws → (n : ℕ) → n < 2 ^ 64 → first (drop k ws) ≡ decimal n → wholeOf (wordAt k (line ws)) ≡ W.Read n
+whole-word k ws h n m e = ap wholeOf (word-at k ws h ∙ e) ∙ whole-back n m
+
+number-word : (k : ℕ) (ws : List (List ℕ)) → Words ws → (x : Float) → T (fits binary64 x) → T (not (isNan x)) → first (drop k ws) ≡ bitsOf x → numberOf (wordAt k (line ws)) ≡ N.Read x
+number-word k ws h x f d e = ap numberOf (word-at k ws h ∙ e) ∙ bits-back x f d
+
+-- ---- each line
+
+offset-line : (t : ℤ) → mag t < 2 ^ 63 → entryOf (line (ascii "offset" ∷ signedText t ∷ [])) ≡ Offset t
+unfolding startsWith
+offset-line t m =
+    let ws = ascii "offset" ∷ signedText t ∷ [] in
+    let h : Words ws = (refl, refl, (signed-some t, signed-clean t m, tt)) in
+    let z : length (line ws) ≤ 1000 = simp length-append (omega (arith, signed-most t)) in
+    entry-named (line ws) (ascii "offset") refl z (word-at 0 ws h) refl ∙ named-offset (line ws)
+    ∙ offset-by (line ws) (signed-word 1 ws h t m refl) (no-more 2 ws h refl)
+
+module _ (t : ℤ) (m : mag t < 2 ^ 63) (v : ℕ) (o : v < 2 ^ 64) where
+  mark-line : (x y : Float) → Numbers (x ∷ y ∷ []) → entryOf (line (ascii "mark" ∷ signedText t ∷ decimal v ∷ patterns (x ∷ y ∷ []))) ≡ Mark t v x y
+  unfolding startsWith
+  mark-line x y n =
+      let ws = ascii "mark" ∷ signedText t ∷ decimal v ∷ patterns (x ∷ y ∷ []) in
+      let h : Words ws = (refl, refl, (signed-some t, signed-clean t m, (some-decimal v, decimal-clean v o, patterns-words (x ∷ y ∷ []) n))) in
+      let z : length (line ws) ≤ 1000 = simp length-append (omega (arith, signed-most t, at-most 20 v, bits-short x, bits-short y)) in
+      entry-named (line ws) (ascii "mark") refl z (word-at 0 ws h) refl ∙ named-mark (line ws)
+      ∙ mark-by (line ws) (signed-word 1 ws h t m refl) (whole-word 2 ws h v o refl)
+      (number-word 3 ws h x (n .0) (n .1) refl) (number-word 4 ws h y (n .2 .0) (n .2 .1) refl) (no-more 5 ws h refl)
+
+  burn-line : (x y z : Float) → Numbers (x ∷ y ∷ z ∷ []) → entryOf (line (ascii "burn" ∷ signedText t ∷ decimal v ∷ patterns (x ∷ y ∷ z ∷ []))) ≡ Burn t v (record { x = x; y = y; z = z })
+  unfolding startsWith
+  burn-line x y z n =
+      let ws = ascii "burn" ∷ signedText t ∷ decimal v ∷ patterns (x ∷ y ∷ z ∷ []) in
+      let h : Words ws = (refl, refl, (signed-some t, signed-clean t m, (some-decimal v, decimal-clean v o, patterns-words (x ∷ y ∷ z ∷ []) n))) in
+      let s : length (line ws) ≤ 1000 = simp length-append (omega (arith, signed-most t, at-most 20 v, bits-short x, bits-short y, bits-short z)) in
+      entry-named (line ws) (ascii "burn") refl s (word-at 0 ws h) refl ∙ named-burn (line ws)
+      ∙ burn-by (line ws) (signed-word 1 ws h t m refl) (whole-word 2 ws h v o refl)
+      (number-word 3 ws h x (n .0) (n .1) refl) (number-word 4 ws h y (n .2 .0) (n .2 .1) refl) (number-word 5 ws h z (n .2 .2 .0) (n .2 .2 .1) refl) (no-more 6 ws h refl)

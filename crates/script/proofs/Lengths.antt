@@ -27,7 +27,7 @@ use Rattle.script.specs.Script.{room, stampPieces, whoPieces, headPieces
 abbrev size : List (List ℕ) → ℕ
 size xs = length (concat xs)
 
-signed-most : (z : ℤ) → length (signedText z) ≤ 21
+pub signed-most : (z : ℤ) → length (signedText z) ≤ 21
 signed-most (pos n) = omega (arith, at-most 20 n)
 signed-most (negsuc n) = omega (arith, at-most 20 (n + 1))
 
