@@ -6,11 +6,11 @@ use mathlib.Core.Path.{_≡_, refl, sym, ap, _∙_}
 use mathlib.Core.List.{List, [], _∷_, _++_, append-nil, append-assoc}
 use mathlib.Core.Bool.{Bool, true, false, cond, not, _&&_}
 use lib.ListN.{length, drop, length-append}
-use lib.Dec.{T, ltb, eqb}
+use lib.Dec.{T, ltb, leb, eqb, lit≤}
 use lib.IntN.{ℤ}
 use lib.Signed.{mag}
 use lib.Ieee.{Float, binary64, fits, isNan}
-use borrow.Author.Tests.{le-ltb}
+use borrow.Author.Tests.{le-ltb, leb-true}
 use Rattle.real.specs.F64.{finite}
 use Rattle.text.specs.Text.{ascii, decimal, signedText}
 use Rattle.text.specs.Pieces.{concat}
@@ -29,8 +29,15 @@ use Rattle.numerals.specs.declared.digits.Signed.the-variants as S
 use Rattle.figures.proofs.Lengths.{bits-short}
 use Rattle.text.proofs.Decimals.{at-most}
 use Rattle.script.proofs.Lengths.{signed-most}
-use Rattle.session.specs.Layout.{allFinite}
-use Rattle.session.specs.Decode.{AllFit}
+use Rattle.session.specs.declared.record.Kind.{Kind}
+use Rattle.session.specs.Kinds.{nameOf, topOf}
+use Rattle.session.specs.Limits.{timeAllowed}
+use Rattle.session.specs.Layout.{kindIn, vehicleIn, byteIn, timeIn, numbersIn, allFinite}
+use Rattle.session.specs.Decode.{AllFit, Held, allowedIn}
+use Rattle.script.specs.Script.{headPieces, bodyPieces, middle}
+use Rattle.retold.specs.Said.{lineText, offsetText, saidOf}
+use mir.Syntax.{w16}
+use mir.Val.{SFits}
 use Rattle.session.proofs.Numbers.{both}
 use Rattle.session.proofs.WriteBack.{not-nan}
 use Rattle.session.specs.declared.record.Record.{Record}
@@ -159,3 +166,75 @@ module _ (t : ℤ) (m : mag t < 2 ^ 63) (v : ℕ) (o : v < 2 ^ 64) where
       entry-named (line ws) (ascii "burn") refl s (word-at 0 ws h) refl ∙ named-burn (line ws)
       ∙ burn-by (line ws) (signed-word 1 ws h t m refl) (whole-word 2 ws h v o refl)
       (number-word 3 ws h x (n .0) (n .1) refl) (number-word 4 ws h y (n .2 .0) (n .2 .1) refl) (number-word 5 ws h z (n .2 .2 .0) (n .2 .2 .1) refl) (no-more 6 ws h refl)
+
+  state-line : (b : ℕ) → b < 2 ^ 64 → (x y z p q r : Float) → Numbers (x ∷ y ∷ z ∷ p ∷ q ∷ r ∷ [])
+      → entryOf (line (ascii "state" ∷ signedText t ∷ decimal v ∷ decimal b ∷ patterns (x ∷ y ∷ z ∷ p ∷ q ∷ r ∷ [])))
+      ≡ State t v b (record { rx = x; ry = y; rz = z; vx = p; vy = q; vz = r })
+  unfolding startsWith
+  state-line b i x y z p q r n =
+      let xs = x ∷ y ∷ z ∷ p ∷ q ∷ r ∷ [] in
+      let ws = ascii "state" ∷ signedText t ∷ decimal v ∷ decimal b ∷ patterns xs in
+      let h : Words ws = (refl, refl, (signed-some t, signed-clean t m, (some-decimal v, decimal-clean v o, (some-decimal b, decimal-clean b i, patterns-words xs n)))) in
+      let s : length (line ws) ≤ 1000 = simp length-append (omega (arith, signed-most t, at-most 20 v, at-most 20 b, bits-short x, bits-short y, bits-short z, bits-short p, bits-short q, bits-short r)) in
+      entry-named (line ws) (ascii "state") refl s (word-at 0 ws h) refl ∙ named-state (line ws)
+      ∙ state-by (line ws) (signed-word 1 ws h t m refl) (whole-word 2 ws h v o refl) (whole-word 3 ws h b i refl)
+      (number-word 4 ws h x (n .0) (n .1) refl) (number-word 5 ws h y (n .2 .0) (n .2 .1) refl) (number-word 6 ws h z (n .2 .2 .0) (n .2 .2 .1) refl)
+      (number-word 7 ws h p (n .2 .2 .2 .0) (n .2 .2 .2 .1) refl) (number-word 8 ws h q (n .2 .2 .2 .2 .0) (n .2 .2 .2 .2 .1) refl)
+      (number-word 9 ws h r (n .2 .2 .2 .2 .2 .0) (n .2 .2 .2 .2 .2 .1) refl) (no-more 10 ws h refl)
+
+-- ---- the lines that are shown
+
+head-line : (k : Kind) (t : ℤ) (v : ℕ) (r : List ℕ) → concat (headPieces k t v) ++ r ≡ nameOf k ++ (32 ∷ (signedText t ++ (32 ∷ (decimal v ++ r))))
+unfolding concat headPieces
+head-line k t v r = simp (append-assoc, append-nil)
+
+body-line : (b : ℕ) (r : List ℕ) → concat (bodyPieces b) ++ r ≡ 32 ∷ (decimal b ++ r)
+unfolding concat bodyPieces
+body-line b r = simp (append-assoc, append-nil)
+
+-- what is allowed is small
+vehicle-small : (r : Record) → allowedIn r ≡ true → vehicleIn r < 2 ^ 64
+vehicle-small r h =
+    let a = both (leb (vehicleIn r) 1 && leb (byteIn r) (topOf (kindIn r)) && timeAllowed (timeIn r)) (allFinite (numbersIn r)) h .0 in
+    let b = both (leb (vehicleIn r) 1 && leb (byteIn r) (topOf (kindIn r))) (timeAllowed (timeIn r)) a .0 in
+    let c = leb-true (vehicleIn r) 1 (both (leb (vehicleIn r) 1) (leb (byteIn r) (topOf (kindIn r))) b .0) in
+    omega (arith, c)
+
+byte-small : (r : Record) → topOf (kindIn r) ≤ 1 → allowedIn r ≡ true → byteIn r < 2 ^ 64
+byte-small r t h =
+    let a = both (leb (vehicleIn r) 1 && leb (byteIn r) (topOf (kindIn r)) && timeAllowed (timeIn r)) (allFinite (numbersIn r)) h .0 in
+    let b = both (leb (vehicleIn r) 1 && leb (byteIn r) (topOf (kindIn r))) (timeAllowed (timeIn r)) a .0 in
+    let c = leb-true (byteIn r) (topOf (kindIn r)) (both (leb (vehicleIn r) 1) (leb (byteIn r) (topOf (kindIn r))) b .1) in
+    omega (arith, c, t)
+
+all-finite : (r : Record) → allowedIn r ≡ true → allFinite (numbersIn r) ≡ true
+all-finite r h = both (leb (vehicleIn r) 1 && leb (byteIn r) (topOf (kindIn r)) && timeAllowed (timeIn r)) (allFinite (numbersIn r)) h .1
+
+-- a record's line says the record
+pub retold : (r : Record) → Held r → allowedIn r ≡ true → entryOf (lineText r) ≡ saidOf r
+unfolding concat
+retold (R.State r) h a =
+    let s = r .state in
+    let xs = numbersIn (R.State r) in
+    let n = numbers-from xs (h .numbers) (all-finite (R.State r) a) in
+    let e = head-line (kindIn (R.State r)) (r .time) (r .vehicle) (concat (middle (R.State r)) ++ concat (rowPieces Bits xs))
+        ∙ ap (λ (l : List ℕ). ascii "state" ++ (32 ∷ (signedText (r .time) ++ (32 ∷ (decimal (r .vehicle) ++ l))))) (body-line (r .body) (concat (rowPieces Bits xs)) ∙ ap (λ (l : List ℕ). 32 ∷ (decimal (r .body) ++ l)) (row-behind xs)) in
+    ap entryOf e
+    ∙ state-line (r .time) (h .time .sfits) (r .vehicle) (vehicle-small (R.State r) a) (r .body) (byte-small (R.State r) (lit≤ tt) a) (s .rx) (s .ry) (s .rz) (s .vx) (s .vy) (s .vz) n
+retold (R.Burn r) h a =
+    let d = r .change in
+    let xs = numbersIn (R.Burn r) in
+    let n = numbers-from xs (h .numbers) (all-finite (R.Burn r) a) in
+    let e = head-line (kindIn (R.Burn r)) (r .time) (r .vehicle) (concat (rowPieces Bits xs))
+        ∙ ap (λ (l : List ℕ). ascii "burn" ++ (32 ∷ (signedText (r .time) ++ (32 ∷ (decimal (r .vehicle) ++ l))))) (row-behind xs) in
+    ap entryOf e ∙ burn-line (r .time) (h .time .sfits) (r .vehicle) (vehicle-small (R.Burn r) a) (d .x) (d .y) (d .z) n
+retold (R.Mark r) h a =
+    let xs = numbersIn (R.Mark r) in
+    let n = numbers-from xs (h .numbers) (all-finite (R.Mark r) a) in
+    let e = head-line (kindIn (R.Mark r)) (r .time) (r .vehicle) (concat (rowPieces Bits xs))
+        ∙ ap (λ (l : List ℕ). ascii "mark" ++ (32 ∷ (signedText (r .time) ++ (32 ∷ (decimal (r .vehicle) ++ l))))) (row-behind xs) in
+    ap entryOf e ∙ mark-line (r .time) (h .time .sfits) (r .vehicle) (vehicle-small (R.Mark r) a) (r .range) (r .rate) n
+
+-- and the offset's line the offset
+pub offset-retold : (z : ℤ) → SFits w16 z → entryOf (offsetText z) ≡ Offset z
+offset-retold z f = ap (λ (l : List ℕ). entryOf (ascii "offset " ++ l)) (sym (append-nil (signedText z))) ∙ offset-line z (omega (arith, f .sfits))
