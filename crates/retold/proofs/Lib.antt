@@ -1,3 +1,4 @@
 pub mod Joined
 pub mod Read
 pub mod Retold
+pub mod TwoLines
