@@ -218,7 +218,7 @@ retold (R.State r) h a =
     let xs = numbersIn (R.State r) in
     let n = numbers-from xs (h .numbers) (all-finite (R.State r) a) in
     let e = head-line (kindIn (R.State r)) (r .time) (r .vehicle) (concat (middle (R.State r)) ++ concat (rowPieces Bits xs))
-        ∙ ap (λ (l : List ℕ). ascii "state" ++ (32 ∷ (signedText (r .time) ++ (32 ∷ (decimal (r .vehicle) ++ l))))) (body-line (r .body) (concat (rowPieces Bits xs)) ∙ ap (λ (l : List ℕ). 32 ∷ (decimal (r .body) ++ l)) (row-behind xs)) in
+    ∙ ap (λ (l : List ℕ). ascii "state" ++ (32 ∷ (signedText (r .time) ++ (32 ∷ (decimal (r .vehicle) ++ l))))) (body-line (r .body) (concat (rowPieces Bits xs)) ∙ ap (λ (l : List ℕ). 32 ∷ (decimal (r .body) ++ l)) (row-behind xs)) in
     ap entryOf e
     ∙ state-line (r .time) (h .time .sfits) (r .vehicle) (vehicle-small (R.State r) a) (r .body) (byte-small (R.State r) (lit≤ tt) a) (s .rx) (s .ry) (s .rz) (s .vx) (s .vy) (s .vz) n
 retold (R.Burn r) h a =
@@ -226,13 +226,13 @@ retold (R.Burn r) h a =
     let xs = numbersIn (R.Burn r) in
     let n = numbers-from xs (h .numbers) (all-finite (R.Burn r) a) in
     let e = head-line (kindIn (R.Burn r)) (r .time) (r .vehicle) (concat (rowPieces Bits xs))
-        ∙ ap (λ (l : List ℕ). ascii "burn" ++ (32 ∷ (signedText (r .time) ++ (32 ∷ (decimal (r .vehicle) ++ l))))) (row-behind xs) in
+    ∙ ap (λ (l : List ℕ). ascii "burn" ++ (32 ∷ (signedText (r .time) ++ (32 ∷ (decimal (r .vehicle) ++ l))))) (row-behind xs) in
     ap entryOf e ∙ burn-line (r .time) (h .time .sfits) (r .vehicle) (vehicle-small (R.Burn r) a) (d .x) (d .y) (d .z) n
 retold (R.Mark r) h a =
     let xs = numbersIn (R.Mark r) in
     let n = numbers-from xs (h .numbers) (all-finite (R.Mark r) a) in
     let e = head-line (kindIn (R.Mark r)) (r .time) (r .vehicle) (concat (rowPieces Bits xs))
-        ∙ ap (λ (l : List ℕ). ascii "mark" ++ (32 ∷ (signedText (r .time) ++ (32 ∷ (decimal (r .vehicle) ++ l))))) (row-behind xs) in
+    ∙ ap (λ (l : List ℕ). ascii "mark" ++ (32 ∷ (signedText (r .time) ++ (32 ∷ (decimal (r .vehicle) ++ l))))) (row-behind xs) in
     ap entryOf e ∙ mark-line (r .time) (h .time .sfits) (r .vehicle) (vehicle-small (R.Mark r) a) (r .range) (r .rate) n
 
 -- and the offset's line the offset

@@ -73,17 +73,26 @@ reached false true true d t p q x e = let w : _≡_ {A = ℕ} 0 1 = cc in let x 
 reached false true false true t p q x e = let w : _≡_ {A = ℕ} 0 1 = cc in let x : ⊥ = omega arith in absurd x
 reached false true false false t p q x e = (refl, e)
 
+-- an offset that was read was decoded, and the next place is behind it
+pub offset-found : (s : List ℕ) (p q : Place) → readAt s p ≡ A.Offset q
+    → (length s ≤ 65536) × (decodeAt (eqb (p .at) 0) (drop (p .at) s) ≡ D.Offset (q .offset)) × (q .at ≡ 8)
+offset-found s p q e =
+    let f = eqb (p .at) 0 in
+    let l = drop (p .at) s in
+    let x = reached (ltb 65536 (length s)) (offsetAllowed (p .offset)) (ltb (length s) (p .at)) (eqb (p .at) (length s)) start p q (placed (decodeAt f l) p) e in
+    let y = told (decodeAt f l) p q (x .1) in
+    (ltb-false 65536 (length s) (x .0), y .0, y .1)
+
 -- an offset that was read is written as it stands
 pub offset-write-read : (s : List ℕ) (p q : Place) → Bytes s → readAt s p ≡ A.Offset q
     → (offsetWritten s (p .at) (q .offset) ≡ Next (q .at)) × (offsetBuffer s (p .at) (q .offset) ≡ s)
 offset-write-read s p q b e =
     let f = eqb (p .at) 0 in
     let l = drop (p .at) s in
-    let x = reached (ltb 65536 (length s)) (offsetAllowed (p .offset)) (ltb (length s) (p .at)) (eqb (p .at) (length s)) start p q (placed (decodeAt f l) p) e in
-    let y = told (decodeAt f l) p q (x .1) in
+    let y = offset-found s p q e in
     let z = q .offset in
-    let h = at-offset f l z (y .0) in
-    let w = offset-write-back f l z (bytes-drop (p .at) s b) (y .0) in
+    let h = at-offset f l z (y .1) in
+    let w = offset-write-back f l z (bytes-drop (p .at) s b) (y .1) in
     let a : p .at ≡ 0 = eqb-true (p .at) 0 (h .first-one) in
     let k : p .at + 8 ≤ length s = omega (arith, h .size, length-drop (p .at) s) in
     let i : hasRoom (p .at) 8 (length s) ≡ true =
@@ -91,7 +100,7 @@ offset-write-read s p q b e =
     let m : offsetMay (p .at) z ≡ true = rw (eq-eqb (p .at) 0 a, h .allowed) refl in
     let t = stood (offsetMay (p .at) z) s (p .at) 8 (offsetBytes z) m i in
     let v : drop (p .at + 8) s ≡ drop 8 l = ap (λ (n : ℕ). drop (n + 8) s) a ∙ sym (ap (λ (n : ℕ). drop 8 (drop n s)) a) in
-    let n : p .at + 8 ≡ q .at = ap (λ (n : ℕ). n + 8) a ∙ sym (y .1) in (
+    let n : p .at + 8 ≡ q .at = ap (λ (n : ℕ). n + 8) a ∙ sym (y .2) in (
       sym (t .0) ∙ ap Next n,
       sym (t .1) ∙ ap (λ (x : List ℕ). take (p .at) s ++ (x ++ drop (p .at + 8) s)) w
           ∙ ap (λ (x : List ℕ). take (p .at) s ++ (take 8 l ++ x)) v
