@@ -2,10 +2,13 @@
 mod judgement;
 mod parts;
 
+use iterator::Beginning;
 use iterator::Judgement;
 use lambert::Way;
+pub use parts::End;
 pub use parts::Ends;
 pub use parts::Sides;
+pub use parts::end_at;
 pub use parts::ends_at;
 pub use parts::is_end;
 pub use parts::numbers;
@@ -14,12 +17,14 @@ pub use parts::sides_at;
 use vector::State;
 use vector::Vector;
 
-// What a solve is given.
+// What a solve is given. An iterated one begins at the start or where it was stopped, and has a limit on its trials.
 pub enum Solve {
     Kepler {
         mu: f64,
         state: State,
         time: f64,
+        beginning: Beginning,
+        limit: u64,
     },
     Lambert {
         mu: f64,
@@ -27,6 +32,8 @@ pub enum Solve {
         second: Vector,
         time: f64,
         way: Way,
+        beginning: Beginning,
+        limit: u64,
     },
     Theta {
         mu: f64,

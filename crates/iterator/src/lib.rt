@@ -25,6 +25,12 @@ pub struct Bracket {
     pub count: u64,
 }
 
+// Where trials begin: at the grid's own ends, or where a run stopped.
+pub enum Beginning {
+    Start,
+    Stopped(Bracket),
+}
+
 // What a single trial answers: its point, that none is left, or a refusal's number.
 pub enum Tried {
     Point(i64),

@@ -31,8 +31,8 @@ use Rattle.problem.specs.Held.{onGrid, placedOf, statedOf, standsOf, goesOn}
 use Rattle.solve.specs.Begun.{timeInput, timesInput, begunOf}
 use Rattle.problem.specs.declared.Problem.{Problem}
 use Rattle.problem.specs.declared.Problem.the-variants.{Kepler, Lambert}
-use Rattle.solve.specs.declared.Beginning.{Beginning}
-use Rattle.solve.specs.declared.Beginning.the-variants.{Start, Stopped}
+use Rattle.iterator.specs.declared.Beginning.{Beginning}
+use Rattle.iterator.specs.declared.Beginning.the-variants.{Start, Stopped}
 use Rattle.solve.specs.declared.Begun.the-variants as B
 use Rattle.problem.proofs.Told.{told}
 use Rattle.problem.proofs.Starts.{start-sound, start-few}

@@ -29,8 +29,8 @@ use Rattle.solve.specs.Answers.{outcomeTo, foundAs, arrivedAs, motionFor
 use Rattle.solve.specs.declared.Solution.{Solution}
 use Rattle.solve.specs.declared.Outcome.{Outcome}
 use Rattle.solve.specs.declared.Outcome.the-variants as O
-use Rattle.solve.specs.declared.Beginning.{Beginning}
-use Rattle.solve.specs.declared.Beginning.the-variants.{Start, Stopped}
+use Rattle.iterator.specs.declared.Beginning.{Beginning}
+use Rattle.iterator.specs.declared.Beginning.the-variants.{Start, Stopped}
 use Rattle.solve.specs.declared.Begun.{Begun}
 use Rattle.solve.specs.declared.Begun.the-variants as B
 use Rattle.solve.specs.declared.Advanced.{Advanced}

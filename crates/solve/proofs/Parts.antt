@@ -15,8 +15,8 @@ use Rattle.kepler.specs.Kepler as K
 use Rattle.lambert.specs.declared.Way.{Way}
 use Rattle.lambert.specs.declared.Transfer.{Transfer}
 use Rattle.lambert.specs.Lambert as L
-use Rattle.solve.specs.declared.Beginning.{Beginning}
-use Rattle.solve.specs.declared.Beginning.the-variants.{Start}
+use Rattle.iterator.specs.declared.Beginning.{Beginning}
+use Rattle.iterator.specs.declared.Beginning.the-variants.{Start}
 use Rattle.solve.specs.Begun.{timesInput, keplerAhead, lambertAhead}
 
 -- a test that fails is the first that does, whatever stands behind it

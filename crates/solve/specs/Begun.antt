@@ -18,8 +18,8 @@ use Rattle.lambert.specs.Lambert as L
 use Rattle.problem.specs.Problems.{startOf}
 use Rattle.problem.specs.Held.{goesOn}
 use Rattle.problem.specs.declared.Problem.{Problem}
-use Rattle.solve.specs.declared.Beginning.{Beginning}
-use Rattle.solve.specs.declared.Beginning.the-variants.{Start, Stopped}
+use Rattle.iterator.specs.declared.Beginning.{Beginning}
+use Rattle.iterator.specs.declared.Beginning.the-variants.{Start, Stopped}
 use Rattle.solve.specs.declared.Begun.{Begun}
 use Rattle.solve.specs.declared.Begun.the-variants.{At, Wrong}
 
