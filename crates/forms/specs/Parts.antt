@@ -14,8 +14,6 @@ use Rattle.forms.specs.declared.parts.Ends.{Ends}
 use Rattle.forms.specs.declared.parts.Ends.the-variants as E
 use Rattle.forms.specs.declared.parts.Sides.{Sides}
 use Rattle.forms.specs.declared.parts.Sides.the-variants as S
-use Rattle.forms.specs.declared.parts.End.{End}
-use Rattle.forms.specs.declared.parts.End.the-variants as P
 use Rattle.forms.specs.Forms.{Form, end, signed, judgement, numbers, readBy}
 
 -- numbers: w is 0, or the number of the first word that is none
@@ -42,10 +40,3 @@ behindSides (S.Unread j) go k line = Q.Unread j
 abbrev pub ReadsSides : Sides → ℕ → List ℕ → Type 0
 ReadsSides r k line =
     (go : Judgement → Judgement → Form) → readBy (judgement λ below. judgement λ above. go below above) k line ≡ behindSides r go (k + 2) line
-
-abbrev pub behindEnd : End → (ℤ → Judgement → Form) → ℕ → List ℕ → Request
-behindEnd (P.Read n j) go k line = readBy (go n j) k line
-behindEnd (P.Unread w) go k line = Q.Unread w
-
-abbrev pub ReadsEnd : End → ℕ → List ℕ → Type 0
-ReadsEnd r k line = (go : ℤ → Judgement → Form) → readBy (signed λ n. judgement λ j. go n j) k line ≡ behindEnd r go (k + 2) line

@@ -6,7 +6,7 @@ ghost use Rattle.words.specs.Words.{wordAt};
 ghost use Rattle.numerals.specs.Numbers.{signedOf};
 ghost use Rattle.forms.specs.Judgements.{judgedOf};
 ghost use Rattle.forms.specs.Forms.{isEnd};
-ghost use Rattle.forms.specs.Parts.{Numbers, OnlyNumbers, ReadsEnds, ReadsSides, ReadsEnd};
+ghost use Rattle.forms.specs.Parts.{Numbers, OnlyNumbers, ReadsEnds, ReadsSides};
 use crate::judgement::Judged;
 use crate::judgement::read_judgement;
 use iterator::Judgement;
@@ -55,13 +55,13 @@ pub fn only_numbers(line: &[u8], k: u32, xs: &mut [f64]) -> u64
     at + 1
 }
 
-fn signed_at(line: &[u8], k: u64) -> Signed
+pub fn signed_at(line: &[u8], k: u64) -> Signed
     ensures { λ r. ⌜ r ≡ signedOf (wordAt k (now (line .entry))) ⌝ }
 {
     numerals::read_signed(words::word(line, k))
 }
 
-fn judgement_at(line: &[u8], k: u64) -> Judged
+pub fn judgement_at(line: &[u8], k: u64) -> Judged
     ensures { λ r. ⌜ r ≡ judgedOf (wordAt k (now (line .entry))) ⌝ }
 {
     read_judgement(words::word(line, k))
@@ -102,24 +102,5 @@ pub fn sides_at(line: &[u8], k: u32) -> Sides
             Judged::Unread => Sides::Unread(at + 2),
         },
         Judged::Unread => Sides::Unread(at + 1),
-    }
-}
-
-// A place on the grid and its judgement.
-pub enum End {
-    Read(i64, Judgement),
-    Unread(u64),
-}
-
-pub fn end_at(line: &[u8], k: u32) -> End
-    ensures { λ r. ⌜ ReadsEnd r k (now (line .entry)) ⌝ }
-{
-    let at = k as u64;
-    match signed_at(line, at) {
-        Signed::Read(n) => match judgement_at(line, at + 1) {
-            Judged::Read(j) => End::Read(n, j),
-            Judged::Unread => End::Unread(at + 2),
-        },
-        Signed::Unread => End::Unread(at + 1),
     }
 }

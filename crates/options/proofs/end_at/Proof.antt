@@ -4,11 +4,11 @@ use mathlib.Core.Path.{_≡_, refl, _∙_}
 use denote.Ref.{now}
 use mir.Syntax.{w64}
 use mir.Facts.{toZ-ofZ}
-use Rattle.forms.proofs.Steps.{by-signed, by-judged}
-use borrow.Author.Needs.{needs}
 use native.Mathlib.Omega.{arith}
-use Rattle.forms.proofs.parts.end_at.Statement.{statement}
-use Rattle.forms.proofs.parts.end_at.Tie as tie
+use Rattle.forms.proofs.Steps.{by-signed, by-judged}
+use borrow.Author.Needs.{needs}
+use Rattle.options.proofs.end_at.Statement.{statement}
+use Rattle.options.proofs.end_at.Tie as tie
 
 signed-at-requires : tie.Need-signed-at-requires
 signed-at-requires c κs = search needs
@@ -28,14 +28,14 @@ enum-known-j c = search needs
 enum-told : tie.Need-enum-told
 enum-told c = search needs
 
-add-t11 : tie.Need-add-t11
-add-t11 c = search needs
+add-t10 : tie.Need-add-t10
+add-t10 c = search needs
 
 enum-told-2 : tie.Need-enum-told-2
 enum-told-2 c = search needs
 
-add-t12 : tie.Need-add-t12
-add-t12 c = search needs
+add-t11 : tie.Need-add-t11
+add-t11 c = search needs
 
 returns : tie.Need-returns
 returns c =
@@ -63,9 +63,9 @@ end-at-spec =
     judgement-at-requires
     enum-known-j
     enum-told
-    add-t11
+    add-t10
     enum-told-2
-    add-t12
+    add-t11
     returns
     returns-2
     returns-3)
