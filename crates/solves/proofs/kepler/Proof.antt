@@ -69,9 +69,9 @@ returns-2 c =
     let a = c .before .before .before .before .before .before .before .before .before .args in
     let s : length (n .last .1 .1 .0) ≡ 8 = omega (arith, n .kept .1 .1 .0) in
     λ ask.
-        first-there 8 (keplerGo ask) (now (a .line)) (a .k) (n .last .1 .1 .0) s (n .ensures) (c .before .before .before .before .if1 .left)
-        ∙ c .before .before .before .read .ensures (keplerAsk ask (n .last .1 .1 .0))
-        ∙ ap (λ (r : Options). asked r (keplerAsk ask (n .last .1 .1 .0))) (c .before .beginning .given .1)
+    first-there 8 (keplerGo ask) (now (a .line)) (a .k) (n .last .1 .1 .0) s (n .ensures) (c .before .before .before .before .if1 .left)
+    ∙ c .before .before .before .read .ensures (keplerAsk ask (n .last .1 .1 .0))
+    ∙ ap (λ (r : Options). asked r (keplerAsk ask (n .last .1 .1 .0))) (c .before .beginning .given .1)
 
 returns-3 : tie.Need-returns-3
 unfolding numbers
@@ -80,9 +80,9 @@ returns-3 c =
     let a = c .before .before .before .before .before .before .before .before .before .args in
     let s : length (n .last .1 .1 .0) ≡ 8 = omega (arith, n .kept .1 .1 .0) in
     λ ask.
-        first-there 8 (keplerGo ask) (now (a .line)) (a .k) (n .last .1 .1 .0) s (n .ensures) (c .before .before .before .before .if1 .left)
-        ∙ c .before .before .before .read .ensures (keplerAsk ask (n .last .1 .1 .0))
-        ∙ ap (λ (r : Options). asked r (keplerAsk ask (n .last .1 .1 .0))) (c .before .j .given .1)
+    first-there 8 (keplerGo ask) (now (a .line)) (a .k) (n .last .1 .1 .0) s (n .ensures) (c .before .before .before .before .if1 .left)
+    ∙ c .before .before .before .read .ensures (keplerAsk ask (n .last .1 .1 .0))
+    ∙ ap (λ (r : Options). asked r (keplerAsk ask (n .last .1 .1 .0))) (c .before .j .given .1)
 
 pub kepler-spec : {M : Type 1} → statement M
 kepler-spec =

@@ -80,11 +80,11 @@ returns-2 c =
     let a = c .before .before .before .before .before .before .before .before .before .before .before .before .before .args in
     let s : length (n .last .1 .1 .0) ≡ 8 = omega (arith, n .kept .1 .1 .0) in
     λ ask.
-        first-there 8 (lambertGo ask) (now (a .line)) (a .k) (n .last .1 .1 .0) s (n .ensures) (c .before .before .before .before .before .before .before .before .if1 .left)
-        ∙ c .before .before .before .before .before .before .before .way-at .ensures (lambertEnd ask (n .last .1 .1 .0))
-        ∙ ap (λ (r : Round). behindWay r (lambertEnd ask (n .last .1 .1 .0)) (now (a .line))) (c .before .before .before .before .before .way .given .1)
-        ∙ c .before .before .before .read .ensures (lambertAsk ask (n .last .1 .1 .0) (c .before .before .before .before .before .way .given .0 .0))
-        ∙ ap (λ (r : Options). asked r (lambertAsk ask (n .last .1 .1 .0) (c .before .before .before .before .before .way .given .0 .0))) (c .before .beginning .given .1)
+    first-there 8 (lambertGo ask) (now (a .line)) (a .k) (n .last .1 .1 .0) s (n .ensures) (c .before .before .before .before .before .before .before .before .if1 .left)
+    ∙ c .before .before .before .before .before .before .before .way-at .ensures (lambertEnd ask (n .last .1 .1 .0))
+    ∙ ap (λ (r : Round). behindWay r (lambertEnd ask (n .last .1 .1 .0)) (now (a .line))) (c .before .before .before .before .before .way .given .1)
+    ∙ c .before .before .before .read .ensures (lambertAsk ask (n .last .1 .1 .0) (c .before .before .before .before .before .way .given .0 .0))
+    ∙ ap (λ (r : Options). asked r (lambertAsk ask (n .last .1 .1 .0) (c .before .before .before .before .before .way .given .0 .0))) (c .before .beginning .given .1)
 
 returns-3 : tie.Need-returns-3
 unfolding numbers
@@ -93,11 +93,11 @@ returns-3 c =
     let a = c .before .before .before .before .before .before .before .before .before .before .before .before .before .args in
     let s : length (n .last .1 .1 .0) ≡ 8 = omega (arith, n .kept .1 .1 .0) in
     λ ask.
-        first-there 8 (lambertGo ask) (now (a .line)) (a .k) (n .last .1 .1 .0) s (n .ensures) (c .before .before .before .before .before .before .before .before .if1 .left)
-        ∙ c .before .before .before .before .before .before .before .way-at .ensures (lambertEnd ask (n .last .1 .1 .0))
-        ∙ ap (λ (r : Round). behindWay r (lambertEnd ask (n .last .1 .1 .0)) (now (a .line))) (c .before .before .before .before .before .way .given .1)
-        ∙ c .before .before .before .read .ensures (lambertAsk ask (n .last .1 .1 .0) (c .before .before .before .before .before .way .given .0 .0))
-        ∙ ap (λ (r : Options). asked r (lambertAsk ask (n .last .1 .1 .0) (c .before .before .before .before .before .way .given .0 .0))) (c .before .j .given .1)
+    first-there 8 (lambertGo ask) (now (a .line)) (a .k) (n .last .1 .1 .0) s (n .ensures) (c .before .before .before .before .before .before .before .before .if1 .left)
+    ∙ c .before .before .before .before .before .before .before .way-at .ensures (lambertEnd ask (n .last .1 .1 .0))
+    ∙ ap (λ (r : Round). behindWay r (lambertEnd ask (n .last .1 .1 .0)) (now (a .line))) (c .before .before .before .before .before .way .given .1)
+    ∙ c .before .before .before .read .ensures (lambertAsk ask (n .last .1 .1 .0) (c .before .before .before .before .before .way .given .0 .0))
+    ∙ ap (λ (r : Options). asked r (lambertAsk ask (n .last .1 .1 .0) (c .before .before .before .before .before .way .given .0 .0))) (c .before .j .given .1)
 
 returns-4 : tie.Need-returns-4
 unfolding numbers
@@ -106,9 +106,9 @@ returns-4 c =
     let a = c .before .before .before .before .before .before .before .before .before .args in
     let s : length (n .last .1 .1 .0) ≡ 8 = omega (arith, n .kept .1 .1 .0) in
     λ ask.
-        first-there 8 (lambertGo ask) (now (a .line)) (a .k) (n .last .1 .1 .0) s (n .ensures) (c .before .before .before .before .if1 .left)
-        ∙ c .before .before .before .way-at .ensures (lambertEnd ask (n .last .1 .1 .0))
-        ∙ ap (λ (r : Round). behindWay r (lambertEnd ask (n .last .1 .1 .0)) (now (a .line))) (c .before .j2 .given .1)
+    first-there 8 (lambertGo ask) (now (a .line)) (a .k) (n .last .1 .1 .0) s (n .ensures) (c .before .before .before .before .if1 .left)
+    ∙ c .before .before .before .way-at .ensures (lambertEnd ask (n .last .1 .1 .0))
+    ∙ ap (λ (r : Round). behindWay r (lambertEnd ask (n .last .1 .1 .0)) (now (a .line))) (c .before .j2 .given .1)
 
 pub lambert-spec : {M : Type 1} → statement M
 lambert-spec =
