@@ -12,8 +12,8 @@ const form forms[ROUTINES] = {
     [C] = { "c", "n" },
     [S] = { "s", "n" },
     [TRIAL] = { "trial", "niijjk" },
-    [KEPLER] = { "kepler", "nnnnnnnn" },
-    [LAMBERT] = { "lambert", "nnnnnnnnw" },
+    [KEPLER] = { "kepler", "nnnnnnnnt" },
+    [LAMBERT] = { "lambert", "nnnnnnnnwt" },
     [THETA] = { "theta", "nnnnnnnnn" },
     [APSIDES] = { "apsides", "nnnnnnn" },
     [WHEEL] = { "wheel", "k" },
@@ -172,6 +172,32 @@ static bool read_way(reader *from, way *out)
            && read_number(next_word(from), &n->z);
 }
 
+/* Takes the next word if it is this one. */
+static bool next_is(reader *from, const char *text)
+{
+    reader ahead = *from;
+    if (!span_is(next_word(&ahead), text))
+        return false;
+    *from = ahead;
+    return true;
+}
+
+static bool read_stopped_run(reader *from, bracket *out)
+{
+    return read_whole(next_word(from), &out->lo) && read_judgement(next_word(from), &out->below)
+           && read_whole(next_word(from), &out->hi) && read_judgement(next_word(from), &out->above)
+           && read_count(next_word(from), &out->count);
+}
+
+static bool read_terms(reader *from, terms *out)
+{
+    *out = usual_terms;
+    out->continued = next_is(from, "from");
+    if (out->continued && !read_stopped_run(from, &out->from))
+        return false;
+    return !next_is(from, "limit") || read_count(next_word(from), &out->limit);
+}
+
 static bool read_part(char letter, reader *from, word *out)
 {
     switch (letter) {
@@ -183,8 +209,10 @@ static bool read_part(char letter, reader *from, word *out)
         return read_count(next_word(from), &out->count);
     case 'j':
         return read_judgement(next_word(from), &out->judgement);
-    default:
+    case 'w':
         return read_way(from, &out->way);
+    default:
+        return read_terms(from, &out->terms);
     }
 }
 
@@ -279,11 +307,31 @@ static void say_trial(pen *p, const word *w)
         say(p, "point %" PRId64, a.n);
 }
 
+static void say_judgement(pen *p, judgement j)
+{
+    static const char *const heads[] = { [UNDER] = "under", [LOW] = "low:", [HIGH] = "high:", [OVER] = "over" };
+    say(p, "%s", heads[j.as]);
+    if (carries_time(j))
+        say(p, "x%016" PRIX64, bits_of(j.time));
+}
+
+/* What can be put behind the request as it is. */
+static void say_stopped_run(pen *p, const bracket *at)
+{
+    say(p, " from %" PRId64 " ", at->lo);
+    say_judgement(p, at->below);
+    say(p, " %" PRId64 " ", at->hi);
+    say_judgement(p, at->above);
+    say(p, " %" PRIu64, at->count);
+}
+
 static void say_solution(pen *p, bool orbit, solution a)
 {
     static const char *const grades[] = { [CLOSED] = "closed", [FAIR] = "fair", [ROUGH] = "rough" };
     if (a.refused) {
         say(p, "refused %d", a.refused);
+        if (a.refused == 29)
+            say_stopped_run(p, &a.at);
         return;
     }
     say(p, "done n %" PRId64 " count %" PRIu64, a.n, a.count);
@@ -351,11 +399,12 @@ void answer_request(const request *asked, char out[ANSWER_MAX])
         say_trial(&p, w);
         break;
     case KEPLER:
-        say_solution(&p, true, kepler(w[0].number, state_at(w + 1), w[7].number));
+        say_solution(&p, true, advance_state(w[0].number, state_at(w + 1), w[7].number, w[8].terms));
         break;
     case LAMBERT:
         say_solution(&p, false,
-                     transfer_velocity(w[0].number, vector_at(w + 1), vector_at(w + 4), w[7].number, w[8].way));
+                     transfer_velocity(w[0].number, vector_at(w + 1), vector_at(w + 4), w[7].number, w[8].way,
+                                       w[9].terms));
         break;
     case THETA:
         say_number(&p, "time D", time_theta(w[0].number, state_at(w + 1), w[7].number, w[8].number));

@@ -10,7 +10,8 @@
 enum routine { ROOT, C, S, TRIAL, KEPLER, LAMBERT, THETA, APSIDES, WHEEL, SIGHT, ROUTINES };
 
 /* A routine's name and a letter for each word behind it:
- * n a number, i a whole number (i64), k a count (u64), j a judgement, w the way round: short, long, or normal and three numbers. */
+ * n a number, i a whole number (i64), k a count (u64), j a judgement, w the way round: short, long, or normal and three
+ * numbers, t the terms, each of which may be left out: from and a stopped run, limit and a count. */
 typedef struct { const char *name, *words; } form;
 
 extern const form forms[ROUTINES];
@@ -23,6 +24,7 @@ typedef union {
     uint64_t count;
     judgement judgement;
     way way;
+    terms terms;
 } word;
 
 typedef struct { enum routine routine; word words[WORDS_MAX]; } request;

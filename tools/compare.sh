@@ -1,6 +1,6 @@
 #!/usr/bin/env bash
-# compare.sh stored | requests | sessions: the linked programs against the second program (second/), on the stored requests,
-# on fresh ones, and on fresh sessions. The seed of the fresh ones is printed; CABIN_SEED=N makes the same again.
+# compare.sh stored | requests | stops | sessions: the linked programs against the second program (second/), on the stored
+# requests, on fresh ones, on solves stopped by a limit and gone on with, and on fresh sessions. The seed of the fresh ones is printed; CABIN_SEED=N makes the same again.
 home=$(cd "$(dirname "${BASH_SOURCE[0]}")/.." && pwd -P)
 . "$home/tools/front.sh"
 cd "$home"
@@ -32,6 +32,13 @@ requests() {
     echo "$requests fresh requests, seed $seed"
     "$second" requests "$seed" "$requests" >"$room/requests"
     ask_both
+}
+
+# Solves that a limit stops, and what they come to.
+stops() {
+    echo "2000 solves stopped and gone on with, seed $seed"
+    ready desk
+    python3 tools/continue.py "${start[*]} ${program[desk]}" "$second desk" 2000 "$seed"
 }
 
 # Lists every OF-th session by both programs, from the K-th on.

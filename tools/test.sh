@@ -64,6 +64,7 @@ part "sessions as text, there and back, and text with faults" python3 tools/text
 part "the front, where things go wrong" python3 tools/front_runs.py
 part "stored requests" bash tools/compare.sh stored
 part "fresh requests" bash tools/compare.sh requests
+part "solves stopped and gone on with" bash tools/compare.sh stops
 part "fresh sessions" bash tools/compare.sh sessions
 whole=yes
 [ "$failed" -eq 0 ]
