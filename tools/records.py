@@ -44,11 +44,6 @@ def comparable(text):
     return lines
 
 
-def shown(command, path):
-    code, text, _ = run(command, "show", path)
-    return code, comparable(text)
-
-
 def written(command, text, room, *before):
     """What a text is written as: the exit status, the line of the one that cannot be written, the file."""
     path = room / "written"
@@ -71,8 +66,8 @@ def made(second, what, count, seed, room):
 def texts(ours, second, count, seed, room):
     found = Differences()
     for path in made(second, "sessions", count, seed, room):
-        found.look(f"show of session {path.name}", shown(ours, path), shown(second, path))
-        code, text, _ = run(ours, "show", path)
+        (code, text, _), (wanted, other, _) = (run(command, "show", path) for command in (ours, second))
+        found.look(f"show of session {path.name}", (code, comparable(text)), (wanted, comparable(other)))
         if code == 0:
             found.look(f"show and write of session {path.name}", written(ours, text, room), (0, [], path.read_bytes()))
     for path in made(second, "texts", count, seed, room):

@@ -66,5 +66,6 @@ part "stored requests" bash tools/compare.sh stored
 part "fresh requests" bash tools/compare.sh requests
 part "solves stopped and gone on with" bash tools/compare.sh stops
 part "fresh sessions" bash tools/compare.sh sessions
+part "fresh sessions as text" bash tools/compare.sh texts
 whole=yes
 [ "$failed" -eq 0 ]
