@@ -92,7 +92,7 @@ REQUESTS = [
 
 
 SESSIONS = [
-    ("days cut towards zero", "listing.c", "int64_t day = local / DAY - (local % DAY < 0);", "int64_t day = local / DAY;"),
+    ("days cut towards zero", "listing.c", "(local_time){ local / DAY - (local % DAY < 0),", "(local_time){ local / DAY,"),
     ("a session of 65,537 bytes let in", "session.c", "if (size > SESSION_MAX)", "if (size > SESSION_MAX + 1)"),
     ("the end not told from a cut", "session.c", "return (reading){ .end = true, .place = from };", "return refused(11, from);"),
     ("under 5 bytes left for under 4", "session.c", "if (left < 4)", "if (left < 5)"),
@@ -103,7 +103,7 @@ SESSIONS = [
     ("vehicle 2 let in", "session.c", "r->vehicle > 1", "r->vehicle > 2"),
     ("a burn's byte not tested", "session.c", '[BURN] = { "burn", 38, 3, 0 }', '[BURN] = { "burn", 38, 3, 255 }'),
     ("infinite numbers let in", "session.c", "if (!isfinite(r->numbers[k]))", "if (isnan(r->numbers[k]))"),
-    ("T-03: the offset subtracted", "listing.c", "r->time + MINUTE", "r->time - MINUTE"),
+    ("T-03: the offset subtracted", "listing.c", "time + MINUTE", "time - MINUTE"),
     ("T-03: the offset read unsigned", "session.c", "r->offset = (int16_t)", "r->offset = (uint16_t)"),
     ("T-03: the offset forgotten behind the first record", "session.c", "offset ? r.offset : from.offset", "offset ? r.offset : 0"),
     ("T-03: `<` for `≤` at 840", "session.c", "offset <= OFFSET_MAX", "offset < OFFSET_MAX"),
@@ -115,6 +115,24 @@ SESSIONS = [
     ("T-03: `<` for `≤` at a time of 2^53", "session.c", "r->time > time_max", "r->time >= time_max"),
     ("T-03: `<` for `≤` at a time of −2^53", "session.c", "r->time < -time_max", "r->time <= -time_max"),
     ("T-03: no limit on times", "session.c", "    if (r->time < -time_max || r->time > time_max)\n        return false;\n", ""),
+]
+
+
+TEXTS = [
+    ("T-01: a record that is two bytes too long let in", "session.c", "end - used < length_of(r->kind)", "end - used + 2 < length_of(r->kind)"),
+    ("T-01: a record that just fits refused", "session.c", "end - used < length_of(r->kind)", "end - used <= length_of(r->kind)"),
+    ("T-01: 15 ahead of 14", "session.c", "    if (!allowed(r, used == 0))\n        return (writing){ 14, used };\n    if (used > end || end - used < length_of(r->kind))\n        return (writing){ 15, used };\n", "    if (used > end || end - used < length_of(r->kind))\n        return (writing){ 15, used };\n    if (!allowed(r, used == 0))\n        return (writing){ 14, used };\n"),
+    ("T-01: a late offset let in", "session.c", "r->kind == OFFSET ? first && offset_allowed", "r->kind == OFFSET ? (first || 1) && offset_allowed"),
+    ("T-01: an offset of any size let in", "session.c", "first && offset_allowed(r->offset) : fields", "first && offset_allowed((int16_t)r->offset) : fields"),
+    ("T-01: a vehicle cut to a byte", "text.c", "return read_count(w, letter == 'v' ? &r->vehicle : &r->byte);", "bool read = read_count(w, letter == 'v' ? &r->vehicle : &r->byte);\n    r->vehicle &= 255;\n    return read;"),
+    ("T-01: a body cut to a byte", "text.c", "return read_count(w, letter == 'v' ? &r->vehicle : &r->byte);", "bool read = read_count(w, letter == 'v' ? &r->vehicle : &r->byte);\n    r->byte &= 255;\n    return read;"),
+    ("T-01: the record's time over 2^53 written", "session.c", "    if (r->time < -time_max || r->time > time_max)\n        return false;\n", ""),
+    ("T-01: lines counted without comments", "records.c", "        number++;\n", "        number += length > 0 && line[0] != '#';\n"),
+    ("T-01: a surplus word let in", "text.c", "return next_word(&from).length == 0 ? READ : from.number;", "return READ;"),
+    ("T-01: what stood there goes when a line is refused", "records.c", 'fprintf(stderr, "line %ld: %s\\n", number, word);', 'fprintf(stderr, "line %ld: %s\\n", number, word), remove(name);'),
+    ("T-01: the records ahead of a refused line written", "records.c", 'fprintf(stderr, "line %ld: %s\\n", number, word);', 'fprintf(stderr, "line %ld: %s\\n", number, word), appear(name, session, used, replace);'),
+    ("T-01: body and vehicle exchanged", "text.c", '[STATE] = "ivbnnnnnn"', '[STATE] = "ibvnnnnnn"'),
+    ("T-01: the day without the offset", "text.c", "local_of(r->time, offset)", "local_of(r->time, 0 * offset)"),
 ]
 
 
@@ -145,6 +163,23 @@ def sessions(program):
     return [output(program, "list", path) for path in sorted(folder.iterdir())]
 
 
+def texts(program):
+    """300 sessions as text, and what becomes of 300 texts."""
+    folders = [ROOM / "shown", ROOM / "texts"]
+    for folder, made in zip(folders, ("sessions", "texts")):
+        if not folder.exists():
+            folder.mkdir()
+            output(program, made, "1", "300", folder)
+    return [output(program, "show", path) for path in sorted(folders[0].iterdir())] + [written(program, path) for path in sorted(folders[1].iterdir())]
+
+
+def written(program, text):
+    path = ROOM / "written"
+    path.write_bytes(b"what stood there")
+    ran = subprocess.run([program, "write", "--replace", path], input=text.read_bytes(), capture_output=True)
+    return ran.returncode, ran.stderr, path.exists() and path.read_bytes()
+
+
 def changed(source, file, old, new, answers, right):
     """How many answers a slip changes."""
     text = (source / file).read_text()
@@ -161,7 +196,7 @@ def main():
     source = ROOM / "second"
     shutil.copytree(ROOT / "second", source)
     unseen = 0
-    for slips, answers, heading in ((REQUESTS, requests, "answers that change"), (SESSIONS, sessions, "listings that change")):
+    for slips, answers, heading in ((REQUESTS, requests, "answers that change"), (SESSIONS, sessions, "listings that change"), (TEXTS, texts, "texts that change")):
         slips = [slip for slip in slips if word in slip[0]]
         right = answers(built(source)) if slips else []
         print(f"\n| slip | {heading} |\n|---|---|")
