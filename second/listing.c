@@ -26,14 +26,18 @@ static char *put_whole(char *at, int64_t n)
     return at;
 }
 
-static char *put_line(char *at, const record *r, int offset)
+local_time local_of(int64_t time, int64_t offset)
 {
-    int64_t local = r->time + MINUTE * (int64_t)offset;
-    int64_t day = local / DAY - (local % DAY < 0);
-    int64_t cs = local % DAY + (local % DAY < 0 ? DAY : 0);
-    at = put_text(put_whole(at, day), " ");
-    at = put_text(put_whole(at, cs), " ");
-    at = put_text(put_whole(at, r->vehicle), " ");
+    int64_t local = time + MINUTE * offset;
+    return (local_time){ local / DAY - (local % DAY < 0), local % DAY + (local % DAY < 0 ? DAY : 0) };
+}
+
+static char *put_line(char *at, const record *r, int64_t offset)
+{
+    local_time local = local_of(r->time, offset);
+    at = put_text(put_whole(at, local.day), " ");
+    at = put_text(put_whole(at, local.cs), " ");
+    at = put_text(put_whole(at, (int64_t)r->vehicle), " ");
     return put_text(put_text(at, name_of(r->kind)), "\n");
 }
 

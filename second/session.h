@@ -1,4 +1,4 @@
-/* 01, 'Session records', and 02, T-03: the reader, the writer that the tests need, and the listing. */
+/* 01, 'Session records', and 02, T-03 and T-01: the reader, the writer, the listing, and the text form. */
 #ifndef SESSION_H
 #define SESSION_H
 
@@ -10,8 +10,8 @@ enum { STATE = 1, BURN = 2, MARK = 3, OFFSET = 4, SESSION_MAX = 65536, RECORD_MA
 
 typedef struct {
     int kind;
-    int offset; /* in minutes: all that an offset record holds, and no other does */
-    int vehicle, byte;
+    int64_t offset; /* in minutes: all that an offset record holds, and no other does */
+    uint64_t vehicle, byte;
     int64_t time;
     double numbers[6]; /* as many as the kind has */
 } record;
@@ -21,15 +21,25 @@ int numbers_of(int kind);
 size_t length_of(int kind);
 
 /* Where a reader stands: the byte, and the session's offset in minutes. */
-typedef struct { size_t byte; int offset; } place;
+typedef struct { size_t byte; int64_t offset; } place;
 
 /* A record and the place behind it, the end, or a refusal and its place. */
 typedef struct { int refused; bool end; place place; record record; } reading;
 
 reading read_record(const uint8_t *session, size_t size, place from);
 
-/* The bytes of a record; answers how many. */
+/* The bytes of a record, whatever it holds; answers how many. */
 size_t write_record(uint8_t out[RECORD_MAX], const record *r);
+
+/* T-01: a record behind the used part of a buffer, and the part then used; or a refusal, and no byte changed. */
+typedef struct { int refused; size_t used; } writing;
+
+writing append_record(uint8_t *buffer, size_t size, size_t used, const record *r);
+
+/* A time by the session's own offset. */
+typedef struct { int64_t day, cs; } local_time;
+
+local_time local_of(int64_t time, int64_t offset);
 
 /* The heading, a line a record, and the refusal's line: a line takes at most 40 bytes, a record that gets
  * one at least 30. */
@@ -38,5 +48,13 @@ enum { LISTING_MAX = (SESSION_MAX / 30 + 2) * 40 };
 typedef struct { size_t length; bool refused; } listed;
 
 listed listing(const uint8_t *session, size_t size, char out[LISTING_MAX]);
+
+/* The text form: a comment for people and a line that can be written again, each with its newline. */
+enum { TEXT_MAX = 600 };
+
+void show_record(const record *r, int64_t offset, char out[TEXT_MAX]);
+
+/* A record of a line: READ, NOTHING, or the number of the first word that cannot be read. */
+int read_text(const char *line, size_t length, record *out);
 
 #endif

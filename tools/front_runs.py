@@ -18,7 +18,7 @@ import time
 import tty
 
 sys.path.insert(0, str(pathlib.Path(__file__).parent))
-from make_sample import listing, night, sample
+from make_sample import listing, night, sample, text
 
 ROOT = pathlib.Path(__file__).resolve().parent.parent
 SAMPLE = ROOT / "samples" / "session.bin"
@@ -180,7 +180,7 @@ def _():
 def _():
     status, text, _said = front("help")
     usages = [line[2:].split("  ")[0] for line in text.decode().split("\n") if line.startswith("  ")]
-    assert status == 0 and len(usages) >= 7, text
+    assert status == 0 and len(usages) >= 9, text
     for usage in usages:
         name, *words = usage.split()
         if ".." not in usage:
@@ -188,6 +188,142 @@ def _():
         for _missing in re.sub(r"\[[^]]*\]", "", usage).split()[1:]:
             hold(front(name), 2, b"", f"usage: ./cabin {name}")
     hold(front("lists"), 2, b"", "no command 'lists'")
+
+
+@case("show: 0 for a whole session, 1 for a refused one, 2 for one that cannot be read")
+def _():
+    hold(front("show", SAMPLE), 0, text(sample()))
+    hold(front("show", given=night()), 0, text(night()))
+    hold(front("show", given=REFUSED), 1, text(REFUSED), "refused")
+    with tempfile.TemporaryDirectory() as room:
+        hold(front("show", pathlib.Path(room) / "none"), 2, b"", "no file")
+        hold(front("show", room), 2, b"", "cannot be read")
+    hold(front("show", closed=[0]), 2, b"", "standard input is closed")
+    with open("/dev/full", "wb") as full:
+        hold(front("show", SAMPLE, stdout=full), 2, None, "No space left")
+
+
+# ---- a file that appears whole or not at all
+
+class Folder:
+    """A folder with what stands there, of which nothing else may be left."""
+
+    def __enter__(self):
+        self.top = tempfile.TemporaryDirectory()
+        self.path = pathlib.Path(self.top.name)
+        self.file = self.path / "file"
+        return self
+
+    def __exit__(self, *_):
+        self.path.chmod(0o755)
+        self.top.cleanup()
+
+    def holds(self, **wanted):
+        got = {path.name: path.read_bytes() for path in self.path.iterdir()}
+        assert got == wanted, f"the folder holds {sorted(got)}, not {sorted(wanted)} with their bytes"
+
+
+TEXT = text(sample())
+
+
+@case("write: FILE is made whole, and may be read by whom the umask lets")
+def _():
+    with Folder() as room:
+        hold(front("write", room.file, given=TEXT), 0, b"")
+        room.holds(file=sample())
+        umask = os.umask(0)
+        os.umask(umask)
+        assert room.file.stat().st_mode & 0o777 == 0o666 & ~umask, oct(room.file.stat().st_mode)
+        ran = subprocess.run([ROOT / "cabin", "write", "-a b"], input=TEXT, cwd=room.path, capture_output=True)
+        assert (ran.returncode, ran.stderr) == (0, b""), ran
+        room.holds(**{"file": sample(), "-a b": sample()})
+
+
+@case("write: a FILE that exists stays, unless it is to be replaced")
+def _():
+    with Folder() as room:
+        room.file.write_bytes(b"old")
+        room.file.chmod(0o640)
+        hold(front("write", room.file, given=TEXT), 2, b"", "exists")
+        room.holds(file=b"old")
+        hold(front("write", "--replace", room.file, given=b"mark 0 2 0 0\n"), 1, b"", "^line 1: refused 14\n")
+        room.holds(file=b"old")
+        hold(front("write", "--replace", room.file, given=TEXT), 0, b"")
+        room.holds(file=sample())
+        assert room.file.stat().st_mode & 0o777 == 0o640
+        (room.path / "link").symlink_to("nowhere")
+        hold(front("write", room.path / "link", given=TEXT), 2, b"", "exists")
+        os.mkfifo(room.path / "pipe")
+        hold(front("write", "--replace", room.path / "pipe", given=TEXT), 2, b"", "no plain file")
+        hold(front("write", "--replace", room.path, given=TEXT), 2, b"", "no plain file")
+        hold(front("write", "--renew", room.file, given=TEXT), 2, b"", "usage")
+
+
+@case("write: a folder that is not there or cannot be written, an empty name, closed input: 2")
+def _():
+    with Folder() as room:
+        hold(front("write", room.path / "none" / "file", given=TEXT), 2, b"", "no folder")
+        hold(front("write", "", given=TEXT), 2, b"", "empty")
+        hold(front("write", room.file, closed=[0]), 2, b"", "standard input is closed")
+        room.path.chmod(0o555)
+        hold(front("write", room.file, given=TEXT, nobody=True), 2, b"", "nothing can be written")
+        room.holds()
+        folder = os.open(room.path, os.O_RDONLY)
+        room.path.chmod(0o755)
+        hold(front("write", room.file, stdin=folder), 2, b"", "standard input")
+        os.close(folder)
+        room.holds()
+
+
+@case("write: a disk that is full: 2, and what stood there stands")
+def _():
+    for limit in (0, 1, 100, len(sample()) - 1):
+        with Folder() as room:
+            hold(front("write", room.file, given=TEXT, limit=limit), 2, b"", "File too large")
+            room.holds()
+            room.file.write_bytes(b"old")
+            hold(front("write", "--replace", room.file, given=TEXT, limit=limit), 2, b"", "File too large")
+            room.holds(file=b"old")
+
+
+@case("write: stopped or killed at any point, FILE is as it was or whole")
+def _():
+    for signal in ("TERM", "INT", "KILL"):
+        for wait in (0, 0.05, 0.2, 0.5):
+            with Folder() as room:
+                room.file.write_bytes(b"old")
+                use = subprocess.Popen([ROOT / "cabin", "write", "--replace", room.file], stdin=subprocess.PIPE, stderr=subprocess.DEVNULL, start_new_session=True)
+                use.stdin.write(TEXT)
+                use.stdin.flush()
+                time.sleep(wait)
+                subprocess.run(["kill", f"-{signal}", "--", f"-{use.pid}"], check=True)
+                use.stdin.close()
+                assert use.wait(timeout=60) != 0, "it was not stopped"
+                assert room.file.read_bytes() == b"old", (signal, wait)
+
+
+@case("write: killed while it takes its place, FILE is as it was or whole")
+def _():
+    for k in range(12):
+        with Folder() as room:
+            use = subprocess.Popen([ROOT / "cabin", "write", room.file], stdin=subprocess.PIPE, stderr=subprocess.DEVNULL, start_new_session=True)
+            time.sleep(0.3)
+            use.stdin.write(TEXT)
+            use.stdin.close()
+            time.sleep(0.01 * k)
+            subprocess.run(["kill", "-KILL", "--", f"-{use.pid}"], stderr=subprocess.DEVNULL)
+            use.wait(timeout=60)
+            assert not room.file.exists() or room.file.read_bytes() == sample(), k
+
+
+@case("write: two at once to one FILE: one makes it, the other is told")
+def _():
+    with Folder() as room:
+        both = [subprocess.Popen([ROOT / "cabin", "write", room.file], stdin=subprocess.PIPE, stderr=subprocess.PIPE) for _ in range(2)]
+        time.sleep(1)
+        said = [one.communicate(given, timeout=60)[1] for one, given in zip(both, (TEXT, text(night())))]
+        assert sorted(one.returncode for one in both) == [0, 2], said
+        room.holds(file=[sample(), night()][both[0].returncode != 0])
 
 
 # ---- output that does not get through
