@@ -68,5 +68,6 @@ part "fresh requests" bash tools/compare.sh requests
 part "solves stopped and gone on with" bash tools/compare.sh stops
 part "fresh sessions" bash tools/compare.sh sessions
 part "fresh sessions as text" bash tools/compare.sh texts
+part "fresh sessions in parts" bash tools/compare.sh parts
 whole=yes
 [ "$failed" -eq 0 ]
