@@ -3,6 +3,7 @@
 #ifndef CONIC_H
 #define CONIC_H
 
+#include "iterator.h"
 #include "series.h"
 #include "vector.h"
 
@@ -12,7 +13,8 @@ enum grade { CLOSED, FAIR, ROUGH };
 
 typedef struct {
     int refused;
-    int64_t n; /* the lower neighbour */
+    bracket at; /* the neighbours, or where 29 stopped */
+    int64_t n;  /* the lower neighbour */
     uint64_t count;
     uint64_t turns; /* Kepler's: whole turns taken off the time asked for */
     enum grade grade;
@@ -25,9 +27,17 @@ typedef struct { enum { SHORT_WAY, LONG_WAY, NORMAL_GIVEN } as; vector normal; }
 
 typedef struct { int refused; bool closed; double near, far; } apses;
 
+solution advance_state(double mu, state from, double time, terms on);
+solution transfer_velocity(double mu, vector from, vector to, double time, way way, terms on);
+
+/* The same on the usual terms. */
 solution kepler(double mu, state from, double time);
-solution transfer_velocity(double mu, vector from, vector to, double time, way way);
 solution lambert(double mu, vector from, vector to, double time, bool long_way);
+
+/* The judgement of a point of their grids, for inputs that pass the tests up to 6. */
+judgement advance_judged(double mu, state from, double time, int64_t n);
+judgement transfer_judged(double mu, vector from, vector to, double time, way way, int64_t n);
+
 number time_theta(double mu, state from, double sine, double cosine);
 apses apsides(double mu, state at);
 

@@ -4,18 +4,18 @@
 
 #include "conic.h"
 #include "iterator.h"
-
-#include <stddef.h>
+#include "words.h"
 
 enum routine { ROOT, C, S, TRIAL, KEPLER, LAMBERT, THETA, APSIDES, WHEEL, SIGHT, ROUTINES };
 
 /* A routine's name and a letter for each word behind it:
- * n a number, i a whole number (i64), k a count (u64), j a judgement, w the way round: short, long, or normal and three numbers. */
+ * n a number, i a whole number (i64), k a count (u64), j a judgement, w the way round: short, long, or normal and three
+ * numbers, t the terms, each of which may be left out: from and a stopped run, limit and a count. */
 typedef struct { const char *name, *words; } form;
 
 extern const form forms[ROUTINES];
 
-enum { WORDS_MAX = 13, LINE_MAX = 1000, ANSWER_MAX = 800 };
+enum { WORDS_MAX = 13, ANSWER_MAX = 800 };
 
 typedef union {
     double number;
@@ -23,13 +23,12 @@ typedef union {
     uint64_t count;
     judgement judgement;
     way way;
+    terms terms;
 } word;
 
 typedef struct { enum routine routine; word words[WORDS_MAX]; } request;
 
-/* READ, or NOTHING for a line without an answer, or the number of the first word that cannot be read. */
-enum { READ = -1, NOTHING = -2 };
-
+/* READ, NOTHING, or the number of the first word that cannot be read. */
 int read_request(const char *line, size_t length, request *out);
 
 /* Both without a newline. */

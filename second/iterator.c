@@ -35,9 +35,9 @@ static int64_t next_point(const bracket *b, double asked, uint64_t number)
     return b->lo + (int64_t)step;
 }
 
-bracket narrowed(bracket b, double asked, judge *judge, const void *problem)
+bracket narrowed(bracket b, double asked, uint64_t limit, judge *judge, const void *problem)
 {
-    while (b.hi - b.lo > 1) {
+    while (b.hi - b.lo > 1 && b.count < limit) {
         b.count++;
         int64_t n = next_point(&b, asked, b.count);
         judgement j = judge(problem, n);

@@ -50,15 +50,24 @@ static state state_at(const advance *k, state from, int64_t n, double t)
     return to;
 }
 
-static void tests_ahead(failure *f, double mu, state from, double time, const advance *k)
+static grid grid_of(const advance *k)
+{
+    return (grid){ { 0, INT64_C(1) << 37, { LOW, 0 }, { OVER, 0 }, 0 }, judge_advance, k, 74 };
+}
+
+static void input_tests(failure *f, double mu, state from, double time, const terms *on)
 {
     finite_state(f, mu, from);
     must_be_finite(f, "t", time);
+    continuation_times(f, on);
     state_rows(f, mu, from);
     time_row(f, time);
+}
+
+static void derived_tests(failure *f, const advance *k)
+{
     must(f, fabs(k->c1) < 0x1p17, 6, "c1", k->c1, "under 2^17 in size");
     must(f, fabs(k->c2) < 0x1p6, 6, "c2", k->c2, "under 2^6 in size");
-    fall_test(f, p_n_of(mu, from));
 }
 
 static void result_tests(failure *f, state to)
@@ -68,27 +77,54 @@ static void result_tests(failure *f, state to)
     must(f, length(to.r) > 0, 9, "|r|", length(to.r), "over 0");
 }
 
-solution kepler(double mu, state from, double time)
+static state ahead_of(state from, double time)
 {
-    bool back = time < 0;
-    state ahead = { from.r, back ? negated(from.v) : from.v };
-    advance k = advance_of(mu, ahead, back ? -time : time);
+    return (state){ from.r, time < 0 ? negated(from.v) : from.v };
+}
+
+/* The problem, and the tests ahead of the first trial. */
+static advance posed(failure *f, double mu, state from, double time, const terms *on)
+{
+    advance k = advance_of(mu, ahead_of(from, time), time < 0 ? -time : time);
+    grid g = grid_of(&k);
+    input_tests(f, mu, from, time, on);
+    derived_tests(f, &k);
+    if (!f->number)
+        take_turns_off(&k);
+    continuation_tests(f, &g, on);
+    fall_test(f, p_n_of(mu, from));
+    return k;
+}
+
+solution advance_state(double mu, state from, double time, terms on)
+{
     failure f = { 0 };
-    tests_ahead(&f, mu, from, time, &k);
+    advance k = posed(&f, mu, from, time, &on);
     if (f.number)
         return (solution){ .refused = f.number };
-    take_turns_off(&k);
-
-    bracket grid = { 0, INT64_C(1) << 37, { LOW, 0 }, { OVER, 0 }, 0 };
-    solution found = closed_in(narrowed(grid, k.rest, judge_advance, &k), k.rest, k.size);
+    grid g = grid_of(&k);
+    solution found = closed_in(trials_made(&g, k.rest, &on), k.rest, k.size);
     if (found.refused)
         return found;
-    state to = state_at(&k, ahead, found.n, found.time);
+    state to = state_at(&k, ahead_of(from, time), found.n, found.time);
     result_tests(&f, to);
     if (f.number)
         return (solution){ .refused = f.number };
     found.turns = k.turns;
     found.r = to.r;
-    found.v = back ? negated(to.v) : to.v;
+    found.v = time < 0 ? negated(to.v) : to.v;
     return found;
+}
+
+solution kepler(double mu, state from, double time)
+{
+    return advance_state(mu, from, time, usual_terms);
+}
+
+judgement advance_judged(double mu, state from, double time, int64_t n)
+{
+    failure f = { 0 };
+    advance k = posed(&f, mu, from, time, &usual_terms);
+    grid g = grid_of(&k);
+    return judged_afresh(&g, n);
 }

@@ -30,7 +30,7 @@ static judgement judge_transfer(const void *problem, int64_t n)
     return judged(flight_of(&l->transfer, p, cot, alpha_n), l->asked);
 }
 
-static void input_tests(failure *f, double mu, vector from, vector to, double time, way way)
+static void input_tests(failure *f, double mu, vector from, vector to, double time, way way, const terms *on)
 {
     must_be_finite(f, "mu", mu);
     must_be_finite_vector(f, of_a, from);
@@ -38,6 +38,7 @@ static void input_tests(failure *f, double mu, vector from, vector to, double ti
     must_be_finite(f, "t", time);
     if (way.as == NORMAL_GIVEN)
         must_be_finite_vector(f, of_n, way.normal);
+    continuation_times(f, on);
     mu_row(f, mu);
     position_row(f, of_a, from);
     position_row(f, of_b, to);
@@ -65,13 +66,19 @@ static void by_normal(failure *f, between_positions *l, vector u1_u2, vector nor
     must(f, fabs(off) <= 0x1p-40, 10, of_n[3], length(normal), "1 within 2^-40");
 }
 
+static grid grid_of(const between_positions *l)
+{
+    const int64_t end = INT64_C(1) << 25;
+    return (grid){ { -end, end, { UNDER, 0 }, { OVER, 0 }, 0 }, judge_transfer, l, 52 };
+}
+
 /* The problem, and the tests ahead of the first trial. */
-static between_positions posed(failure *f, double mu, vector from, vector to, double time, way way)
+static between_positions posed(failure *f, double mu, vector from, vector to, double time, way way, const terms *on)
 {
     double r1 = length(from), r2 = length(to);
     vector u1 = over(from, r1), u2 = over(to, r2), u1_u2 = cross(u1, u2);
     between_positions l = { .mu = mu, .asked = time, .ratio = r1 / r2, .cosine = dot(u1, u2), .u1 = u1 };
-    input_tests(f, mu, from, to, time, way);
+    input_tests(f, mu, from, to, time, way, on);
     if (way.as == NORMAL_GIVEN)
         by_normal(f, &l, u1_u2, way.normal);
     else
@@ -79,6 +86,8 @@ static between_positions posed(failure *f, double mu, vector from, vector to, do
     l.transfer = transfer_of(mu, r1, l.sine, l.cosine);
     must(f, l.ratio < 0x1p7, 6, "r1/r2", l.ratio, "under 2^7");
     turn_test(f, l.transfer.turn);
+    grid g = grid_of(&l);
+    continuation_tests(f, &g, on);
     return l;
 }
 
@@ -89,15 +98,14 @@ static vector velocity_at(const between_positions *l, int64_t n)
     return times(sqrt(l->mu * p / l->transfer.r1), plus(times(cot, l->u1), cross(l->normal, l->u1)));
 }
 
-solution transfer_velocity(double mu, vector from, vector to, double time, way way)
+solution transfer_velocity(double mu, vector from, vector to, double time, way way, terms on)
 {
     failure f = { 0 };
-    between_positions l = posed(&f, mu, from, to, time, way);
+    between_positions l = posed(&f, mu, from, to, time, way, &on);
     if (f.number)
         return (solution){ .refused = f.number };
-    const int64_t end = INT64_C(1) << 25;
-    bracket grid = { -end, end, { UNDER, 0 }, { OVER, 0 }, 0 };
-    solution found = closed_in(narrowed(grid, time, judge_transfer, &l), time, time);
+    grid g = grid_of(&l);
+    solution found = closed_in(trials_made(&g, time, &on), time, time);
     if (found.refused)
         return found;
     found.v = velocity_at(&l, found.n);
@@ -107,5 +115,13 @@ solution transfer_velocity(double mu, vector from, vector to, double time, way w
 
 solution lambert(double mu, vector from, vector to, double time, bool long_way)
 {
-    return transfer_velocity(mu, from, to, time, (way){ .as = long_way ? LONG_WAY : SHORT_WAY });
+    return transfer_velocity(mu, from, to, time, (way){ .as = long_way ? LONG_WAY : SHORT_WAY }, usual_terms);
+}
+
+judgement transfer_judged(double mu, vector from, vector to, double time, way way, int64_t n)
+{
+    failure f = { 0 };
+    between_positions l = posed(&f, mu, from, to, time, way, &usual_terms);
+    grid g = grid_of(&l);
+    return judged_afresh(&g, n);
 }

@@ -7,7 +7,7 @@
 #include <inttypes.h>
 #include <stdio.h>
 
-typedef struct { char words[WORDS_MAX + 3][72]; int count; } spelling;
+typedef struct { char words[24][72]; int count; } spelling;
 
 static void spell_number(char *out, double x, bool decimal)
 {
@@ -28,38 +28,81 @@ static void spell_judgement(char *out, judgement j, bool decimal)
         spell_number(out, j.time, decimal);
 }
 
-static void spell_word(char *out, char letter, word w, bool decimal)
+static char *new_word(spelling *s)
+{
+    return s->words[s->count++];
+}
+
+static void spell_whole(char *out, int64_t n)
+{
+    sprintf(out, one_in(16) ? "%020" PRId64 : "%" PRId64, n);
+}
+
+static void spell_count(char *out, uint64_t n)
+{
+    sprintf(out, "%" PRIu64, n);
+}
+
+static void spell_way(spelling *s, way way, bool decimal)
+{
+    strcpy(new_word(s), way.as == LONG_WAY ? "long" : way.as == SHORT_WAY ? "short" : "normal");
+    if (way.as != NORMAL_GIVEN)
+        return;
+    spell_number(new_word(s), way.normal.x, decimal);
+    spell_number(new_word(s), way.normal.y, decimal);
+    spell_number(new_word(s), way.normal.z, decimal);
+}
+
+static void spell_stopped_run(spelling *s, const bracket *b, bool decimal)
+{
+    strcpy(new_word(s), "from");
+    spell_whole(new_word(s), b->lo);
+    spell_judgement(new_word(s), b->below, decimal);
+    spell_whole(new_word(s), b->hi);
+    spell_judgement(new_word(s), b->above, decimal);
+    spell_count(new_word(s), b->count);
+}
+
+static void spell_terms(spelling *s, const terms *on, bool decimal)
+{
+    if (on->continued)
+        spell_stopped_run(s, &on->from, decimal);
+    if (on->limit == UINT64_MAX && !one_in(32))
+        return;
+    strcpy(new_word(s), "limit");
+    spell_count(new_word(s), on->limit);
+}
+
+static void spell_part(spelling *s, char letter, const word *w, bool decimal)
 {
     switch (letter) {
     case 'n':
-        spell_number(out, w.number, decimal);
+        spell_number(new_word(s), w->number, decimal);
         break;
     case 'i':
-        sprintf(out, one_in(16) ? "%020" PRId64 : "%" PRId64, w.whole);
+        spell_whole(new_word(s), w->whole);
         break;
     case 'k':
-        sprintf(out, "%" PRIu64, w.count);
+        spell_count(new_word(s), w->count);
         break;
     case 'j':
-        spell_judgement(out, w.judgement, decimal);
+        spell_judgement(new_word(s), w->judgement, decimal);
+        break;
+    case 'w':
+        spell_way(s, w->way, decimal);
         break;
     default:
-        strcpy(out, w.way.as == LONG_WAY ? "long" : w.way.as == SHORT_WAY ? "short" : "normal");
+        spell_terms(s, &w->terms, decimal);
     }
 }
 
 static spelling spelled(const request *q, bool decimal)
 {
-    spelling s = { .count = 1 };
-    strcpy(s.words[0], forms[q->routine].name);
-    for (const char *letter = forms[q->routine].words; *letter; letter++, s.count++)
-        spell_word(s.words[s.count], *letter, q->words[s.count - 1], decimal);
-    if (q->routine == LAMBERT && q->words[8].way.as == NORMAL_GIVEN) {
-        vector n = q->words[8].way.normal;
-        spell_number(s.words[s.count++], n.x, decimal);
-        spell_number(s.words[s.count++], n.y, decimal);
-        spell_number(s.words[s.count++], n.z, decimal);
-    }
+    spelling s = { .count = 0 };
+    const word *w = q->words;
+    strcpy(new_word(&s), forms[q->routine].name);
+    for (const char *letter = forms[q->routine].words; *letter; letter++)
+        spell_part(&s, *letter, w++, decimal);
     return s;
 }
 
@@ -86,7 +129,7 @@ static void pad(line *l, size_t length)
         l->bytes[l->length++] = with;
 }
 
-static const char *bad_word(void)
+const char *bad_word(void)
 {
     static const char *const bad[] = {
         "x", "x123", "x3FF000000000000", "x3FF00000000000000", "x3FF000000000000G", "X3FF0000000000000",
@@ -95,7 +138,7 @@ static const char *bad_word(void)
         "nan", "inf", "low:", "low", "low:-", "high:x", "high:1.", "LOW:1", "under:1", "over:", "under", "over",
         "high:-0", "low:+0.5", "18446744073709551615", "18446744073709551616", "9223372036854775807",
         "9223372036854775808", "-9223372036854775808", "-9223372036854775809", "+5", "-0", "5-", "\xCE\xBE",
-        "short", "long", "normal", "Short", "shorter", "#",
+        "short", "long", "normal", "Short", "shorter", "#", "from", "limit", "From", "limits",
     };
     return bad[below(sizeof bad / sizeof *bad)];
 }

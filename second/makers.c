@@ -158,6 +158,7 @@ static void some_transfer(request *q)
     q->words[8].way = (way){ .as = short_way == one_in(8) ? LONG_WAY : SHORT_WAY };
     if (one_in(3))
         some_given_normal(q, &o);
+    q->words[9].terms = usual_terms;
 }
 
 /* The half tangent at which an orbit stops having a time, or starts to, between a and b. */
@@ -241,8 +242,10 @@ request some_request(enum routine routine)
         break;
     default:
         put_orbit(&q, &o);
-        if (routine == KEPLER)
+        if (routine == KEPLER) {
             q.words[7].number = either_sign(some_time(&o));
+            q.words[8].terms = usual_terms;
+        }
         if (routine == THETA)
             some_angle(q.words + 7, &o);
     }

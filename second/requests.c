@@ -154,6 +154,8 @@ static void emit_some(void)
     };
     if (one_in(20)) {
         request q = some_request((enum routine)below(ROUTINES));
+        if ((q.routine == KEPLER || q.routine == LAMBERT) && one_in(2))
+            some_terms(&q);
         emit(spoilt_line(&q, one_in(4)));
         return;
     }
@@ -162,6 +164,8 @@ static void emit_some(void)
         return;
     }
     request q = some_request(often[below(sizeof often / sizeof *often)]);
+    if ((q.routine == KEPLER || q.routine == LAMBERT) && one_in(3))
+        some_terms(&q);
     if (!meanings[q.routine] || below(10) < 6)
         emit_request(&q, one_in(4));
     else if (one_in(2)) {

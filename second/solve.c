@@ -63,11 +63,13 @@ judgement judged(flight f, double asked)
 
 solution closed_in(bracket b, double trials_time, double size)
 {
+    if (b.hi - b.lo > 1)
+        return (solution){ .refused = 29, .at = b };
     if (!carries_time(b.below))
-        return (solution){ .refused = 8 };
+        return (solution){ .refused = 8, .at = b };
     if (!carries_time(b.above))
-        return (solution){ .refused = 7 };
+        return (solution){ .refused = 7, .at = b };
     double t = b.below.time, err = trials_time - t;
     enum grade grade = err <= size * 0x1p-20 ? CLOSED : err <= size * 0x1p-10 ? FAIR : ROUGH;
-    return (solution){ .n = b.lo, .count = b.count, .grade = grade, .time = t, .err = err };
+    return (solution){ .at = b, .n = b.lo, .count = b.count, .grade = grade, .time = t, .err = err };
 }

@@ -30,7 +30,18 @@ typedef struct { enum { TIMED, TOO_FAST, TOO_SLOW } as; double t; } flight;
 flight timed(double t);
 judgement judged(flight f, double asked);
 
-/* The answer at the lower neighbour, still without an orbit, or 8 or 7: the trials' time, and the size of
+/* A grid with the judgements that 01 gives its own ends, what judges the points between, and 2b. */
+typedef struct { bracket ends; judge *judge; const void *problem; uint64_t most; } grid;
+
+judgement judged_afresh(const grid *g, int64_t n);
+
+/* T-14: rows 1 and 6 for a continuation. */
+void continuation_times(failure *f, const terms *on);
+void continuation_tests(failure *f, const grid *g, const terms *on);
+
+bracket trials_made(const grid *g, double asked, const terms *on);
+
+/* The answer at the lower neighbour, still without an orbit, or 29, 8 or 7: the trials' time, and the size of
  * the time asked for, from which the grade's limits are taken. */
 solution closed_in(bracket b, double trials_time, double size);
 

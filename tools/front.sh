@@ -143,8 +143,18 @@ run_lines() { # NAME [WORD..]
             last=$line
         done
         [ -z "$line" ] || { say "the last line was cut: $line"; exit 2; }
-        case $last in 'refused '*) exit 1 ;; esac
+        case $last in 'refused '* | '# refused '*) exit 1 ;; esac
     }
+}
+
+# Runs a program that is ready with its output as ours, each line at once, and keeps no more of it than the last line,
+# however long it is. Answers 1 where that is a refusal.
+run_stream() { # NAME [WORD..]
+    local last to
+    exec {to}>&1
+    last=$(run "$@" | tee --output-error=exit /dev/fd/3 3>&1 >&"$to" | tail -n 1) || return 2
+    exec {to}>&-
+    case $last in 'refused '*) return 1 ;; esac
 }
 
 # Does what COMMAND does, with its output as ours, and answers its status; what it says on standard error is in `said`.
@@ -167,6 +177,17 @@ heard() { # COMMAND..
 }
 
 # ---- a file that appears whole or not at all
+
+# Sees to it that a file may be made, or replaced.
+need_place() { # FILE REPLACE
+    local folder
+    [ -n "$1" ] || fail "the file's name is empty: give the path of the session to be written"
+    folder=$(dirname -- "$1")
+    [ -d "$folder" ] || fail "there is no folder $folder: make it, or give another path"
+    [ ! -e "$1" ] && [ ! -L "$1" ] && return
+    [ "$2" = yes ] || fail "$1 exists and stays as it is: give another path, or say --replace before it"
+    [ -f "$1" ] || fail "$1 is no plain file: give another path"
+}
 
 # A new file beside FILE, which goes away at the end: `made`.
 beside() { # FILE

@@ -21,8 +21,8 @@ CABIN = ROOT / "cabin"
 TESTS = r"\w+Tests"
 REFUSED = r"\b(?:Refused|Bad) (\d+)"
 CASES = {
-    "advance": [("kepler/specs/Kepler", TESTS), ("kepler/specs/Kepler", r"^resultRow .*= positionComponents (9)"), ("solve/specs/Answers", r"^advancedNumber \S+ = ([78])")],
-    "transfer-velocity": [("lambert/specs/Lambert", TESTS), ("lambert/specs/Lambert", r"^resultRow .*= velocityComponents (9)"), ("solve/specs/Answers", r"^transferredNumber \S+ = ([78])")],
+    "advance": [("kepler/specs/Kepler", TESTS), ("kepler/specs/Kepler", r"^resultRow .*= positionComponents (9)"), ("solve/specs/Answers", r"^advancedNumber .*= (7|8|29)$")],
+    "transfer-velocity": [("lambert/specs/Lambert", TESTS), ("lambert/specs/Lambert", r"^resultRow .*= velocityComponents (9)"), ("solve/specs/Answers", r"^transferredNumber .*= (7|8|29)$")],
     "transfer-time": [("theta/specs/Theta", TESTS), ("theta/specs/Theta", r"^numberOf Too\w+ = ([78])")],
     "apsides": [("apsides/specs/Apsides", TESTS)],
     "sight": [("sight/specs/Sight", TESTS), ("wheel/specs/Wheel", REFUSED)],
@@ -30,8 +30,10 @@ CASES = {
     "root": [("root/specs/Root", REFUSED)],
     "series": [("series/specs/Series", REFUSED)],
     "trial": [("iterator/specs/Single", REFUSED)],
+    "writer": [("writer/specs/Write", REFUSED)],
     "reader": [("session/specs/Decode", REFUSED), ("session/specs/Offset", REFUSED), ("session/specs/Read", REFUSED)],
     "listing": [("session/specs/Decode", REFUSED), ("session/specs/Offset", REFUSED), ("session/specs/Read", REFUSED), ("lines/specs/Lines", REFUSED)],
+    "stream": [("session/specs/Decode", REFUSED), ("session/specs/Offset", REFUSED), ("stream/specs/Stream", REFUSED)],
 }
 
 

@@ -19,13 +19,13 @@ ANSWERS = {
     "c": ["value", "refused 1", "refused 6"],
     "s": ["value", "refused 1", "refused 6"],
     "trial": ["point", "none", "refused 1", "refused 6"],
-    "kepler": GRADES + [f"refused {n}" for n in (1, 2, 3, 4, 5, 6, 19, 7, 9)],
-    "lambert": GRADES + [f"refused {n}" for n in (1, 2, 3, 5, 10, 6, 7, 8, 9)],
+    "kepler": GRADES + [f"refused {n}" for n in (1, 2, 3, 4, 5, 6, 19, 29, 7, 9)],
+    "lambert": GRADES + [f"refused {n}" for n in (1, 2, 3, 5, 10, 6, 29, 7, 8, 9)],
     "theta": ["time"] + [f"refused {n}" for n in (1, 2, 3, 4, 10, 6, 19, 7, 8)],
     "apsides": ["closed", "open"] + [f"refused {n}" for n in (1, 2, 3, 4, 6, 19)],
     "wheel": ["sine", "refused 16"],
     "sight": ["points"] + [f"refused {n}" for n in (1, 3, 16, 17, 18)],
-    "a line that cannot be read": [f"unread {n}" for n in range(16)],
+    "a line that cannot be read": [f"unread {n}" for n in range(23)],
 }
 
 
@@ -36,7 +36,7 @@ def kind_of(request, answer):
         return "a line that cannot be read", answer
     routine = request.split()[0]
     if words[0] == "refused":
-        return routine, answer
+        return routine, " ".join(words[:2])
     return routine, words[words.index("grade") + 1] if words[0] == "done" else words[0]
 
 

@@ -41,6 +41,7 @@ fn advance(bare: bool, from: &mut u64, sum: u64) -> u64 {
     match solve::advance(mu, s, t) {
         Advanced::Found(to, x, _) => fold::state(fold::solution(sum, x), to),
         Advanced::TooLong => fold::refusal(sum, 7),
+        Advanced::NotFinished(_) => fold::refusal(sum, 29),
         Advanced::Refused(no) => fold::refusal(sum, no),
     }
 }
@@ -59,6 +60,7 @@ fn lambert(bare: bool, from: &mut u64, sum: u64) -> u64 {
         Transferred::Found(v, x) => fold::vector(fold::solution(sum, x), v),
         Transferred::TooLong => fold::refusal(sum, 7),
         Transferred::TooShort => fold::refusal(sum, 8),
+        Transferred::NotFinished(_) => fold::refusal(sum, 29),
         Transferred::Refused(no) => fold::refusal(sum, no),
     }
 }

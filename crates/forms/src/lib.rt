@@ -2,24 +2,30 @@
 mod judgement;
 mod parts;
 
+use iterator::Beginning;
 use iterator::Judgement;
+pub use judgement::Judged;
 use lambert::Way;
 pub use parts::Ends;
 pub use parts::Sides;
 pub use parts::ends_at;
 pub use parts::is_end;
+pub use parts::judgement_at;
 pub use parts::numbers;
 pub use parts::only_numbers;
 pub use parts::sides_at;
+pub use parts::signed_at;
 use vector::State;
 use vector::Vector;
 
-// What a solve is given.
+// What a solve is given. An iterated one begins at the start or where it was stopped, and has a limit on its trials.
 pub enum Solve {
     Kepler {
         mu: f64,
         state: State,
         time: f64,
+        beginning: Beginning,
+        limit: u64,
     },
     Lambert {
         mu: f64,
@@ -27,6 +33,8 @@ pub enum Solve {
         second: Vector,
         time: f64,
         way: Way,
+        beginning: Beginning,
+        limit: u64,
     },
     Theta {
         mu: f64,

@@ -55,13 +55,13 @@ pub fn only_numbers(line: &[u8], k: u32, xs: &mut [f64]) -> u64
     at + 1
 }
 
-fn signed_at(line: &[u8], k: u64) -> Signed
+pub fn signed_at(line: &[u8], k: u64) -> Signed
     ensures { λ r. ⌜ r ≡ signedOf (wordAt k (now (line .entry))) ⌝ }
 {
     numerals::read_signed(words::word(line, k))
 }
 
-fn judgement_at(line: &[u8], k: u64) -> Judged
+pub fn judgement_at(line: &[u8], k: u64) -> Judged
     ensures { λ r. ⌜ r ≡ judgedOf (wordAt k (now (line .entry))) ⌝ }
 {
     read_judgement(words::word(line, k))

@@ -12,8 +12,8 @@ use lib.Ieee.{Float, nan, inf, fin, up, down, below, level, lt, le, eq, ofBits}
 use Rattle.real.specs.F64.{_≤ᶠ_, finite}
 use Rattle.iterator.specs.Judged.{inTime, judgedOf}
 use Rattle.iterator.specs.Rule.{Grid, widthOf}
-use Rattle.iterator.specs.Run.{narrowed, nextPoint, next, more, run}
-use Rattle.iterator.specs.Single.{timeFinite, allFinite, inGrid, timeInTime, allInTime, isBelow, isAbove, agrees, endsAgree, soundOf, nextTrialOf, trialOf}
+use Rattle.iterator.specs.Run.{narrowed, nextPoint, next, more, run, runTo}
+use Rattle.iterator.specs.Single.{timeFinite, allFinite, inGrid, timeInTime, allInTime, isBelow, isAbove, agrees, endsAgree, soundOf, nextTrialOf, trialOf, moreLeft}
 use Rattle.iterator.specs.declared.Judgement.{Judgement}
 use Rattle.iterator.specs.declared.Judgement.the-variants.{Low, High, Under, Over}
 use Rattle.iterator.specs.declared.Bracket.{Bracket}
@@ -23,6 +23,7 @@ use Rattle.iterator.proofs.Whole.{lt-le, le-trans}
 use Rattle.iterator.proofs.Grids.{in-grid}
 use Rattle.iterator.proofs.Trials.{inside}
 use Rattle.iterator.proofs.Runs.{run-keeps}
+use Rattle.iterator.proofs.Limits.{to-keeps}
 
 -- what a judge may answer: under, over, or a computed time judged
 pub data Told (asked : Float) : Judgement → Type 0 where
@@ -99,7 +100,7 @@ in-time-finite (inf true) h = h
 in-time-finite (inf false) h = h
 in-time-finite (fin s m e) h = refl
 
-time-finite : (j : Judgement) → timeInTime j ≡ true → timeFinite j ≡ true
+pub time-finite : (j : Judgement) → timeInTime j ≡ true → timeFinite j ≡ true
 time-finite (Low t) h = in-time-finite t h
 time-finite (High t) h = in-time-finite t h
 time-finite Under h = refl
@@ -152,9 +153,9 @@ above-it (inf s) y h k l = absurd (true≢false (sym h))
 above-it nan y h k l = absurd (true≢false (sym h))
 
 -- ---- what is told agrees with its judgement
-record Agreeing (asked : Float) (j : Judgement) : Type 0 where
-  time-in : timeInTime j ≡ true
-  agree : agrees asked j ≡ true
+pub record Agreeing (asked : Float) (j : Judgement) : Type 0 where
+  pub time-in : timeInTime j ≡ true
+  pub agree : agrees asked j ≡ true
 
 judged-agrees : (asked t : Float) → inTime asked ≡ true → Agreeing asked (judgedOf asked t)
 unfolding judgedOf
@@ -168,7 +169,7 @@ judged-agrees asked t a = go (inTime t) refl
     go true e = sided (t ≤ᶠ asked) refl e
     go false e = record { time-in = refl; agree = refl }
 
-told-agrees : {asked : Float} {j : Judgement} → Told asked j → inTime asked ≡ true → Agreeing asked j
+pub told-agrees : {asked : Float} {j : Judgement} → Told asked j → inTime asked ≡ true → Agreeing asked j
 told-agrees under a = record { time-in = refl; agree = refl }
 told-agrees over a = record { time-in = refl; agree = refl }
 told-agrees {asked} (timed t) a = judged-agrees asked t a
@@ -237,6 +238,9 @@ module _ (judge : ℤ → Judgement) (asked : Float) (told : (n : ℤ) → Told 
   pub run-sound : (s : Bracket) → Sound asked s → Sound asked (run judge asked s)
   run-sound s h = run-keeps judge asked (Sound asked) next-sound s h
 
+  pub to-sound : (l : ℕ) (s : Bracket) → Sound asked s → Sound asked (runTo judge asked l s)
+  to-sound l s h = to-keeps judge asked (Sound asked) next-sound l s h
+
 -- ---- the trial of a run on a sound bracket: its next point, or none left at neighbours; so never a refusal
 next-trial-is : {asked : Float} {s : Bracket} → Sound asked s
     → nextTrialOf asked (s .lo) (s .hi) (s .below) (s .above) (s .count + 1) ≡ cond (more s) (Point (nextPoint asked s)) NoneLeft
@@ -271,3 +275,8 @@ module _ {asked : Float} {s : Bracket} (h : Sound asked s) where
       go : (t : Bool) → Refused n ≡ cond t (Point (nextPoint asked s)) NoneLeft → ⊥
       go true q = let z : _≡_ {A = ℕ} 0 1 = cc in zero-one z
       go false q = let z : _≡_ {A = ℕ} 0 1 = cc in zero-one z
+
+-- and a trial is left exactly where the run has more
+pub more-is : {asked : Float} {s : Bracket} → Sound asked s → moreLeft (s .lo) (s .hi) ≡ more s
+unfolding moreLeft
+more-is h = simp (in-grid-is h)

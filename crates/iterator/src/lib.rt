@@ -4,8 +4,9 @@ ghost use mathlib.Core.Path.{_≡_};
 ghost use Prim.Native.Nat.{_<_};
 ghost use Rattle.iterator.specs.Judged.{inTime, judgedOf};
 ghost use Rattle.iterator.specs.Rule.{Grid, widthOf, within, secantOf, strideOf, pointOf};
+ghost use Rattle.iterator.specs.Same.{sameTime, kindOf, carriedOf, sameAs};
 ghost use Rattle.iterator.specs.Single.{timeFinite, allFinite, inGrid, timeInTime, allInTime};
-ghost use Rattle.iterator.specs.Single.{isBelow, agrees, endsAgree, soundOf, nextTrialOf, trialOf};
+ghost use Rattle.iterator.specs.Single.{isBelow, agrees, endsAgree, soundOf, nextTrialOf, trialOf, moreLeft};
 
 // Low and high carry the time found; under is too fast and over too slow to have one.
 pub enum Judgement {
@@ -22,6 +23,12 @@ pub struct Bracket {
     pub below: Judgement,
     pub above: Judgement,
     pub count: u64,
+}
+
+// Where trials begin: at the grid's own ends, or where a run stopped.
+pub enum Beginning {
+    Start,
+    Stopped(Bracket),
 }
 
 // What a single trial answers: its point, that none is left, or a refusal's number.
@@ -176,7 +183,8 @@ fn all_in_time(asked: f64, below: Judgement, above: Judgement) -> bool
     time_in_time(above)
 }
 
-fn is_below(j: Judgement) -> bool
+// Low or under; the others are high or over.
+pub fn is_below(j: Judgement) -> bool
     ensures { λ r. ⌜ r ≡ isBelow j ⌝ }
 {
     match j {
@@ -251,4 +259,61 @@ pub fn trial(asked: f64, lo: i64, hi: i64, below: Judgement, above: Judgement, k
         return Tried::Refused(6);
     }
     next_trial(asked, lo, hi, below, above, k)
+}
+
+// A trial is left: hi - lo > 1, for ends on the grid.
+pub fn more_left(lo: i64, hi: i64) -> bool
+    ensures { λ r. ⌜ r ≡ moreLeft lo hi ⌝ }
+{
+    if !in_grid(lo, hi) {
+        return false;
+    }
+    1 < width(lo, hi)
+}
+
+// The same number to the bit, a zero with its sign; every NaN is one.
+fn same_time(x: f64, y: f64) -> bool
+    ensures { λ r. ⌜ r ≡ sameTime x y ⌝ }
+{
+    if x != x {
+        return y != y;
+    }
+    if y != y {
+        return false;
+    }
+    let a: u64 = f64::to_bits(x);
+    let b: u64 = f64::to_bits(y);
+    a == b
+}
+
+fn kind(j: Judgement) -> u64
+    ensures { λ r. ⌜ r ≡ kindOf j ⌝ }
+{
+    match j {
+        Judgement::Low(_) => 0,
+        Judgement::High(_) => 1,
+        Judgement::Under => 2,
+        Judgement::Over => 3,
+    }
+}
+
+fn carried(j: Judgement) -> f64
+    ensures { λ r. ⌜ r ≡ carriedOf j ⌝ }
+{
+    match j {
+        Judgement::Low(t) => t,
+        Judgement::High(t) => t,
+        Judgement::Under => 0.0,
+        Judgement::Over => 0.0,
+    }
+}
+
+// The same judgement, its time to the bit.
+pub fn same(j: Judgement, k: Judgement) -> bool
+    ensures { λ r. ⌜ r ≡ sameAs j k ⌝ }
+{
+    if kind(j) != kind(k) {
+        return false;
+    }
+    same_time(carried(j), carried(k))
 }

@@ -12,7 +12,7 @@ use Rattle.table.specs.declared.Name.the-variants.{First, Second, Velocity, Tim
 use Rattle.table.specs.declared.Entry.{Entry}
 use Rattle.table.specs.declared.Test.the-variants.{Passed}
 use Rattle.table.specs.Tests.{firstFailing, allMeet, numberOf, firstRow, tableOrder, ordered, isRow}
-use Rattle.rows.specs.Rows.{finiteNumber, finiteInputs, muRow, transferTimeRow}
+use Rattle.rows.specs.Rows.{finiteNumber, finiteInputs}
 use Rattle.table.proofs.Laws.{all-met, meet-both, first-row, row-then}
 use Rattle.rows.proofs.Components.{Finite, velocity-finite}
 use Rattle.rows.proofs.Inputs.{allFinite, inputs-finite, one-more}
@@ -23,7 +23,7 @@ use Rattle.reach.specs.declared.Reached.the-variants as R
 use Rattle.lambert.specs.declared.Way.{Way}
 use Rattle.lambert.specs.declared.Way.the-variants.{Short, Long, Normal}
 use Rattle.lambert.specs.declared.Transfer.{Transfer}
-use Rattle.lambert.specs.Lambert.{turnOf, sharedOf, transferOf, positionRows, normalInput, angleRow, derivedRow, lambertTests, reachAt, judgedReach, lambertJudge, resultRow}
+use Rattle.lambert.specs.Lambert.{turnOf, sharedOf, transferOf, normalInput, rangeRows, lambertTests, reachAt, judgedReach, lambertJudge, resultRow}
 
 -- ---- the judge
 
@@ -82,9 +82,9 @@ module _ (mu : Float) (first second : Vector) (t : Float) (d : Transfer) where
 
   pub lambert-not-finite : (way : Way) → (finite mu && allFinite first && allFinite second && finite t && wayFinite way) ≡ false
       → numberOf (firstFailing (lambertTests mu first second way t d)) ≡ 1
-  lambert-not-finite Short h = refused Short (muRow mu ++ positionRows first second d ++ transferTimeRow t ++ angleRow Short d ++ derivedRow d) refl h
-  lambert-not-finite Long h = refused Long (muRow mu ++ positionRows first second d ++ transferTimeRow t ++ angleRow Long d ++ derivedRow d) refl h
-  lambert-not-finite (Normal n) h = refused (Normal n) (muRow mu ++ positionRows first second d ++ transferTimeRow t ++ angleRow (Normal n) d ++ derivedRow d) refl h
+  lambert-not-finite Short h = refused Short (rangeRows mu first second Short t d) refl h
+  lambert-not-finite Long h = refused Long (rangeRows mu first second Long t d) refl h
+  lambert-not-finite (Normal n) h = refused (Normal n) (rangeRows mu first second (Normal n) t d) refl h
 
 -- ---- the short way's own normal, given: all that the trials share is the same but sinθ, and what is made of it
 

@@ -76,15 +76,9 @@ normalInput Short = []
 normalInput Long = []
 normalInput (Normal n) = finiteVector N.Normal n
 
--- 1, 2, 3 and 5
-abbrev pub inputRows : Float → Vector → Vector → Way → Float → Transfer → List Entry
-inputRows mu first second way t d =
-    finiteInputs mu First first Second second
-    ++ finiteNumber Time t
-    ++ normalInput way
-    ++ muRow mu
-    ++ positionRows first second d
-    ++ transferTimeRow t
+-- 1, of mu, the positions, the time and a normal that is given
+abbrev pub inputRow : Float → Vector → Vector → Way → Float → List Entry
+inputRow mu first second way t = finiteInputs mu First first Second second ++ finiteNumber Time t ++ normalInput way
 
 -- 10 with a normal given: 1 − cosθ < 2^-20, or the normal's length not 1 within 2^-40
 abbrev pub normalRow : Vector → Float → List Entry
@@ -100,9 +94,14 @@ angleRow (Normal n) d = normalRow n (d .cos)
 abbrev pub derivedRow : Transfer → List Entry
 derivedRow d = entry 6 Ratio Whole (d .ratio) (L.Under (two^ 7)) ∷ cothalfRow (d .cothalf)
 
+-- 2, 3, 5, 10 and 6
+abbrev pub rangeRows : Float → Vector → Vector → Way → Float → Transfer → List Entry
+rangeRows mu first second way t d =
+    muRow mu ++ positionRows first second d ++ transferTimeRow t ++ angleRow way d ++ derivedRow d
+
 -- the tests ahead of the first trial, in the order of the rows
 abbrev pub lambertTests : Float → Vector → Vector → Way → Float → Transfer → List Entry
-lambertTests mu first second way t d = inputRows mu first second way t d ++ angleRow way d ++ derivedRow d
+lambertTests mu first second way t d = inputRow mu first second way t ++ rangeRows mu first second way t d
 
 -- 1. den = (ratio − cosθ) + sinθ·cot
 abbrev pub denOf : Transfer → Float → Float

@@ -10,7 +10,7 @@ use vector::Vector;
 ghost use mathlib.Core.Path.{_≡_};
 ghost use Rattle.table.specs.declared.Test.the-variants.{Passed};
 ghost use Rattle.table.specs.Tests.{_▷_, firstFailing};
-ghost use Rattle.lambert.specs.Lambert.{turnOf, sharedOf, transferOf, positionRows, normalInput, inputRows, normalRow, angleRow, derivedRow, lambertTests, denOf, pOf, arcOf, sideOf, reachAt, lambertJudge, velocityOf, resultRow};
+ghost use Rattle.lambert.specs.Lambert.{turnOf, sharedOf, transferOf, positionRows, normalInput, inputRow, normalRow, angleRow, derivedRow, rangeRows, denOf, pOf, arcOf, sideOf, reachAt, lambertJudge, velocityOf, resultRow};
 
 // The short way round from the first position to the second, the long way, or the way round a normal that is given.
 pub enum Way {
@@ -117,13 +117,12 @@ fn normal_input(t: Test, way: Way) -> Test
     }
 }
 
-// Rows 1, 2, 3 and 5.
-fn input_rows(mu: f64, first: Vector, second: Vector, way: Way, t: f64, d: Transfer) -> Test
-    ensures { λ r. ⌜ r ≡ Passed ▷ inputRows mu first second way t d ⌝ }
+// Row 1, of mu, the positions, the time and a normal that is given.
+pub fn input_row(mu: f64, first: Vector, second: Vector, way: Way, t: f64) -> Test
+    ensures { λ r. ⌜ r ≡ Passed ▷ inputRow mu first second way t ⌝ }
 {
     let a = rows::finite_inputs(mu, Name::First, first, Name::Second, second);
-    let b = normal_input(rows::finite_number(a, Name::Time, t), way);
-    rows::transfer_time_row(position_rows(rows::mu_row(b, mu), first, second, d), t)
+    normal_input(rows::finite_number(a, Name::Time, t), way)
 }
 
 // Row 10 of a normal that is given: 2^-20 ≤ 1 − cosθ, then the normal's length 1 within 2^-40.
@@ -167,12 +166,21 @@ fn derived_row(t: Test, d: Transfer) -> Test
     reach::cothalf_row(a, d.cothalf)
 }
 
-// Rows 1, 2, 3, 5, 10 and 6, ahead of the first trial.
-pub fn tests(mu: f64, first: Vector, second: Vector, way: Way, t: f64, d: Transfer) -> Test
-    ensures { λ r. ⌜ r ≡ firstFailing (lambertTests mu first second way t d) ⌝ }
+// Rows 2, 3, 5, 10 and 6.
+pub fn range_rows(
+    test: Test,
+    mu: f64,
+    first: Vector,
+    second: Vector,
+    way: Way,
+    t: f64,
+    d: Transfer,
+) -> Test
+    ensures { λ r. ⌜ r ≡ test ▷ rangeRows mu first second way t d ⌝ }
 {
-    let a = input_rows(mu, first, second, way, t, d);
-    derived_row(angle_row(a, way, d), d)
+    let a = position_rows(rows::mu_row(test, mu), first, second, d);
+    let b = angle_row(rows::transfer_time_row(a, t), way, d);
+    derived_row(b, d)
 }
 
 fn den_at(d: Transfer, cot: f64) -> f64

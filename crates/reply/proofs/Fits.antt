@@ -8,7 +8,7 @@ use Rattle.text.specs.Pieces.{concat, Laid}
 use Rattle.root.specs.Root.{rootAnswer}
 use Rattle.series.specs.Series.{cAnswer, sAnswer}
 use Rattle.iterator.specs.Single.{trialOf}
-use Rattle.solve.specs.Answers.{advanceOf, transferVelocityOf}
+use Rattle.solve.specs.Answers.{advanceTo, transferVelocityTo}
 use Rattle.theta.specs.Theta.{thetaOf}
 use Rattle.apsides.specs.Apsides.{apsidesOf}
 use Rattle.forms.specs.declared.Request.{Request}
@@ -28,8 +28,8 @@ use Rattle.reply.specs.Replies.{room, solvedOf, lookedOf, replyOf}
 
 solved-fits : (x : Solve) → length (concat (solvedOf x)) ≤ room
 unfolding solvedOf
-solved-fits (Kepler mu state time) = advanced-fits (advanceOf mu state time)
-solved-fits (Lambert mu first second time way) = transferred-fits (transferVelocityOf mu first second way time)
+solved-fits (Kepler mu state time beginning limit) = advanced-fits (advanceTo mu state time limit beginning)
+solved-fits (Lambert mu first second time way beginning limit) = transferred-fits (transferVelocityTo mu first second way time limit beginning)
 solved-fits (Theta mu state sine cosine) = timed-fits (thetaOf mu state sine cosine)
 solved-fits (Apsides mu state) = apsides-fits (apsidesOf mu state)
 

@@ -6,7 +6,7 @@ use Rattle.columns.specs.Rows.{unreadPieces}
 use Rattle.root.specs.Root.{rootAnswer}
 use Rattle.series.specs.Series.{cAnswer, sAnswer}
 use Rattle.iterator.specs.Single.{trialOf}
-use Rattle.solve.specs.Answers.{advanceOf, transferVelocityOf}
+use Rattle.solve.specs.Answers.{advanceTo, transferVelocityTo}
 use Rattle.theta.specs.Theta.{thetaOf}
 use Rattle.apsides.specs.Apsides.{apsidesOf}
 use Rattle.forms.specs.declared.Request.{Request}
@@ -29,8 +29,8 @@ room = 512
 
 -- the routine's own answer, as a line
 unfoldable pub solvedOf : Solve → List (List ℕ)
-solvedOf (Kepler mu state time) = advancedPieces (advanceOf mu state time)
-solvedOf (Lambert mu first second time way) = transferredPieces (transferVelocityOf mu first second way time)
+solvedOf (Kepler mu state time beginning limit) = advancedPieces (advanceTo mu state time limit beginning)
+solvedOf (Lambert mu first second time way beginning limit) = transferredPieces (transferVelocityTo mu first second way time limit beginning)
 solvedOf (Theta mu state sine cosine) = timedPieces (thetaOf mu state sine cosine)
 solvedOf (Apsides mu state) = apsidesPieces (apsidesOf mu state)
 

@@ -12,9 +12,15 @@ fn solved(buf: &mut [u8], given: Solve) -> usize
     ensures { λ r. ⌜ Laid (now (buf .entry)) 0 (solvedOf given) (now (buf .exit)) r ⌝ }
 {
     match given {
-        Solve::Kepler { mu, state, time } => solutions::tell_advance(
+        Solve::Kepler {
+            mu,
+            state,
+            time,
+            beginning,
+            limit,
+        } => solutions::tell_advance(
             buf,
-            solve::advance(mu, state, time),
+            solve::advance_limited(mu, state, time, limit, beginning),
         ),
         Solve::Lambert {
             mu,
@@ -22,7 +28,12 @@ fn solved(buf: &mut [u8], given: Solve) -> usize
             second,
             time,
             way,
-        } => solutions::tell_transfer(buf, solve::transfer_velocity(mu, first, second, way, time)),
+            beginning,
+            limit,
+        } => solutions::tell_transfer(
+            buf,
+            solve::transfer_velocity_limited(mu, first, second, way, time, limit, beginning),
+        ),
         Solve::Theta {
             mu,
             state,

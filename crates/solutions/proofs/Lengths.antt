@@ -11,6 +11,7 @@ use Rattle.text.specs.Pieces.{concat}
 use Rattle.text.proofs.Decimals.{at-most}
 use Rattle.text.proofs.Lays.{concat-append}
 use Rattle.columns.proofs.RowLaws.{end-short, labelled-short, refused-fits}
+use Rattle.brackets.proofs.Lengths.{stopped-fits}
 use Rattle.vector.specs.declared.Vector.{Vector}
 use Rattle.vector.specs.declared.State.{State}
 use Rattle.solve.specs.Answers.{advancedNumber, transferredNumber}
@@ -81,10 +82,12 @@ transfer-short v x =
 pub advanced-fits : (a : Advanced) → size (advancedPieces a) ≤ 512
 advanced-fits (Ad.Found s x turns) = orbit-short s x turns
 advanced-fits Ad.TooLong = refused-fits (advancedNumber Ad.TooLong)
+advanced-fits (Ad.NotFinished b) = stopped-fits b
 advanced-fits (Ad.Refused n) = refused-fits (advancedNumber (Ad.Refused n))
 
 pub transferred-fits : (a : Transferred) → size (transferredPieces a) ≤ 512
 transferred-fits (Tr.Found v x) = transfer-short v x
 transferred-fits Tr.TooLong = refused-fits (transferredNumber Tr.TooLong)
 transferred-fits Tr.TooShort = refused-fits (transferredNumber Tr.TooShort)
+transferred-fits (Tr.NotFinished b) = stopped-fits b
 transferred-fits (Tr.Refused n) = refused-fits (transferredNumber (Tr.Refused n))

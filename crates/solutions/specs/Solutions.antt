@@ -6,6 +6,7 @@ use lib.IntN.{ℤ}
 use lib.Ieee.{Float}
 use Rattle.text.specs.Text.{ascii, decimal, signedText}
 use Rattle.columns.specs.Rows.{labelledPieces, endPieces, refusedPieces}
+use Rattle.brackets.specs.Brackets.{stoppedPieces}
 use Rattle.vector.specs.declared.Vector.{Vector}
 use Rattle.vector.specs.declared.State.{State}
 use Rattle.solve.specs.Answers.{advancedNumber, transferredNumber}
@@ -63,10 +64,12 @@ transferPieces v x = donePieces x ++ (velocityPieces (v .x) (v .y) (v .z) ++ end
 abbrev pub advancedPieces : Advanced → List (List ℕ)
 advancedPieces (Ad.Found s x turns) = orbitPieces s x turns
 advancedPieces Ad.TooLong = refusedPieces (advancedNumber Ad.TooLong)
+advancedPieces (Ad.NotFinished b) = stoppedPieces b
 advancedPieces (Ad.Refused n) = refusedPieces (advancedNumber (Ad.Refused n))
 
 abbrev pub transferredPieces : Transferred → List (List ℕ)
 transferredPieces (Tr.Found v x) = transferPieces v x
 transferredPieces Tr.TooLong = refusedPieces (transferredNumber Tr.TooLong)
 transferredPieces Tr.TooShort = refusedPieces (transferredNumber Tr.TooShort)
+transferredPieces (Tr.NotFinished b) = stoppedPieces b
 transferredPieces (Tr.Refused n) = refusedPieces (transferredNumber (Tr.Refused n))

@@ -95,6 +95,7 @@ pub fn tell_advance(buf: &mut [u8], a: Advanced) -> usize
     match a {
         Advanced::Found(s, x, turns) => orbit(buf, s, x, turns),
         Advanced::TooLong => columns::refused(buf, 7),
+        Advanced::NotFinished(s) => brackets::stopped(buf, s),
         Advanced::Refused(n) => columns::refused(buf, n),
     }
 }
@@ -107,6 +108,7 @@ pub fn tell_transfer(buf: &mut [u8], a: Transferred) -> usize
         Transferred::Found(v, x) => velocity(buf, v, x),
         Transferred::TooLong => columns::refused(buf, 7),
         Transferred::TooShort => columns::refused(buf, 8),
+        Transferred::NotFinished(s) => brackets::stopped(buf, s),
         Transferred::Refused(n) => columns::refused(buf, n),
     }
 }

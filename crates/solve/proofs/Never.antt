@@ -13,8 +13,8 @@ use Rattle.iterator.specs.Judged.{inTime, judgedOf}
 use Rattle.iterator.specs.Single.{isBelow}
 use Rattle.kepler.specs.declared.Motion.{Motion}
 use Rattle.kepler.specs.Kepler.{trialAt, judgedTrial, keplerJudge}
-use Rattle.solve.specs.Problems.{startOf, heldOf, lastOf}
-use Rattle.solve.specs.declared.Problem.the-variants.{Kepler}
+use Rattle.problem.specs.Problems.{startOf, heldOf, lastOf}
+use Rattle.problem.specs.declared.Problem.the-variants.{Kepler}
 use Rattle.solve.proofs.Asked.{Asked}
 use Rattle.solve.proofs.Ended.{last-sound, held-below}
 

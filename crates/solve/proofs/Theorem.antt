@@ -28,11 +28,11 @@ use Rattle.iterator.specs.declared.Bracket.{Bracket}
 use Rattle.kepler.specs.Kepler.{turnedOf, keplerTests, trialAt, judgedTrial, stateAt, rowAt}
 use Rattle.lambert.specs.declared.Way.{Way}
 use Rattle.lambert.specs.Lambert.{transferOf, lambertTests, judgedReach, velocityOf, resultRow}
-use Rattle.solve.specs.Problems.{judgeOf, startOf, heldOf, lastOf, mostOf}
+use Rattle.problem.specs.Problems.{judgeOf, startOf, heldOf, lastOf, mostOf}
 use Rattle.solve.specs.Times.{time, none, carriedBy, timedTrial, timedReach, timeInside, timeAt}
 use Rattle.solve.specs.Answers.{solutionOf, motionFor, turnsFor, advanceOf, transferVelocityOf}
-use Rattle.solve.specs.declared.Problem.{Problem}
-use Rattle.solve.specs.declared.Problem.the-variants.{Kepler, Lambert}
+use Rattle.problem.specs.declared.Problem.{Problem}
+use Rattle.problem.specs.declared.Problem.the-variants.{Kepler, Lambert}
 use Rattle.solve.specs.declared.Solution.{Solution}
 use Rattle.solve.specs.declared.Advanced.the-variants as Ad
 use Rattle.solve.specs.declared.Transferred.the-variants as Tr

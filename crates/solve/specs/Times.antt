@@ -13,9 +13,9 @@ use Rattle.iterator.specs.declared.Judgement.the-variants.{Low, High, Under, Ov
 use Rattle.iterator.specs.Judged.{inTime}
 use Rattle.kepler.specs.Kepler.{trialAt}
 use Rattle.lambert.specs.Lambert.{reachAt}
-use Rattle.solve.specs.Problems.{startOf}
-use Rattle.solve.specs.declared.Problem.{Problem}
-use Rattle.solve.specs.declared.Problem.the-variants.{Kepler, Lambert}
+use Rattle.problem.specs.Problems.{startOf}
+use Rattle.problem.specs.declared.Problem.{Problem}
+use Rattle.problem.specs.declared.Problem.the-variants.{Kepler, Lambert}
 
 pub data Computed : Type 0 where
   time : Float → Computed

@@ -1,14 +1,17 @@
 -- What a list of numbers gives a solve. Assumes nothing.
+use Prim.Native.Nat.{ℕ}
 use mathlib.Core.List.{List}
 use lib.ListN.{getD}
 use lib.Ieee.{Float, nan}
 use Rattle.vector.specs.declared.State.{State}
+use Rattle.iterator.specs.declared.Beginning.{Beginning}
 use Rattle.lambert.specs.declared.Way.{Way}
 use Rattle.lambert.specs.declared.Way.the-variants.{Normal}
 use Rattle.forms.specs.declared.Request.{Request}
 use Rattle.forms.specs.declared.Solve.{Solve}
 use Rattle.forms.specs.declared.Solve.the-variants.{Kepler, Lambert, Theta, Apsides}
-use Rattle.forms.specs.Forms.{Form, end}
+use Rattle.forms.specs.Forms.{Form}
+use Rattle.options.specs.Options.{options}
 use Rattle.solves.specs.Solves.{way}
 
 abbrev stateIn : List Float → State
@@ -21,15 +24,24 @@ stateIn xs = record {
   vz = getD xs 6 nan;
 }
 
-abbrev pub keplerOf : List Float → Solve
-keplerOf xs = Kepler (getD xs 0 nan) (stateIn xs) (getD xs 7 nan)
+abbrev keplerOf : List Float → Beginning → ℕ → Solve
+keplerOf xs g l = Kepler (getD xs 0 nan) (stateIn xs) (getD xs 7 nan) g l
 
-abbrev lambertOf : List Float → Way → Solve
-lambertOf xs w =
-    Lambert (getD xs 0 nan) (record { x = getD xs 1 nan; y = getD xs 2 nan; z = getD xs 3 nan }) (record { x = getD xs 4 nan; y = getD xs 5 nan; z = getD xs 6 nan }) (getD xs 7 nan) w
+abbrev pub keplerAsk : (Solve → Request) → List Float → Beginning → ℕ → Request
+keplerAsk ask xs g l = ask (keplerOf xs g l)
+
+abbrev pub keplerGo : (Solve → Request) → List Float → Form
+keplerGo ask xs = options (keplerAsk ask xs)
+
+abbrev lambertOf : List Float → Way → Beginning → ℕ → Solve
+lambertOf xs w g l =
+    Lambert (getD xs 0 nan) (record { x = getD xs 1 nan; y = getD xs 2 nan; z = getD xs 3 nan }) (record { x = getD xs 4 nan; y = getD xs 5 nan; z = getD xs 6 nan }) (getD xs 7 nan) w g l
+
+abbrev pub lambertAsk : (Solve → Request) → List Float → Way → Beginning → ℕ → Request
+lambertAsk ask xs w g l = ask (lambertOf xs w g l)
 
 abbrev pub lambertEnd : (Solve → Request) → List Float → Way → Form
-lambertEnd ask xs w = end (ask (lambertOf xs w))
+lambertEnd ask xs w = options (lambertAsk ask xs w)
 
 abbrev pub lambertGo : (Solve → Request) → List Float → Form
 lambertGo ask xs = way (lambertEnd ask xs)

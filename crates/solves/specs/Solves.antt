@@ -14,6 +14,7 @@ use Rattle.forms.specs.declared.Request.the-variants.{Unread}
 use Rattle.forms.specs.declared.Solve.{Solve}
 use Rattle.forms.specs.declared.Solve.the-variants.{Kepler, Lambert, Theta, Apsides}
 use Rattle.forms.specs.Forms.{Form, end, number, word, none, readBy}
+use Rattle.options.specs.Options.{options}
 use Rattle.solves.specs.declared.Round.{Round}
 use Rattle.solves.specs.declared.Round.the-variants as R
 use Rattle.solves.specs.declared.Given.{Given}
@@ -38,10 +39,10 @@ way go = word (ascii "short") (go Short) (word (ascii "long") (go Long) (word (a
 -- ---- the table; `ask` makes the request
 
 abbrev pub keplerForm : (Solve → Request) → Form
-keplerForm ask = orbit λ mu state. number λ time. end (ask (Kepler mu state time))
+keplerForm ask = orbit λ mu state. number λ time. options λ g l. ask (Kepler mu state time g l)
 
 abbrev pub lambertForm : (Solve → Request) → Form
-lambertForm ask = three λ mu first second. number λ time. way λ w. end (ask (Lambert mu first second time w))
+lambertForm ask = three λ mu first second. number λ time. way λ w. options λ g l. ask (Lambert mu first second time w g l)
 
 abbrev pub thetaForm : (Solve → Request) → Form
 thetaForm ask = orbit λ mu state. number λ sine. number λ cosine. end (ask (Theta mu state sine cosine))

@@ -4,6 +4,7 @@ ghost use Prim.Native.Nat.{_+_, _^_, _≤_, _<_};
 ghost use Rattle.solves.specs.Solves.{keplerForm, lambertForm, thetaForm, apsidesForm, solveForm, Gives, ReadsNormal, ReadsWay};
 use forms::Solve;
 use lambert::Way;
+use options::Options;
 use vector::State;
 use vector::Vector;
 
@@ -57,25 +58,31 @@ fn way_at(line: &[u8], k: u32) -> Round
 }
 
 fn kepler(line: &[u8], k: u32) -> Given
+    requires { ⌜ k ≤ 65536 ⌝ }
     ensures { λ r. ⌜ Gives keplerForm r k (now (line .entry)) ⌝ }
 {
     let mut x = [0.0; 8];
-    let w = forms::only_numbers(line, k, &mut x);
+    let w = forms::numbers(line, k, &mut x);
     if w != 0 {
         return Given::Unread(w);
     }
-    Given::Read(Solve::Kepler {
-        mu: x[0],
-        state: State {
-            rx: x[1],
-            ry: x[2],
-            rz: x[3],
-            vx: x[4],
-            vy: x[5],
-            vz: x[6],
-        },
-        time: x[7],
-    })
+    match options::read(line, k + 8) {
+        Options::Read(beginning, limit) => Given::Read(Solve::Kepler {
+            mu: x[0],
+            state: State {
+                rx: x[1],
+                ry: x[2],
+                rz: x[3],
+                vx: x[4],
+                vy: x[5],
+                vz: x[6],
+            },
+            time: x[7],
+            beginning,
+            limit,
+        }),
+        Options::Unread(j) => Given::Unread(j),
+    }
 }
 
 fn lambert(line: &[u8], k: u32) -> Given
@@ -88,27 +95,26 @@ fn lambert(line: &[u8], k: u32) -> Given
         return Given::Unread(w);
     }
     match way_at(line, k + 8) {
-        Round::Read(way, behind) => {
-            let at = behind as u64;
-            if forms::is_end(line, at) {
-                return Given::Read(Solve::Lambert {
-                    mu: x[0],
-                    first: Vector {
-                        x: x[1],
-                        y: x[2],
-                        z: x[3],
-                    },
-                    second: Vector {
-                        x: x[4],
-                        y: x[5],
-                        z: x[6],
-                    },
-                    time: x[7],
-                    way,
-                });
-            }
-            Given::Unread(at + 1)
-        }
+        Round::Read(way, behind) => match options::read(line, behind) {
+            Options::Read(beginning, limit) => Given::Read(Solve::Lambert {
+                mu: x[0],
+                first: Vector {
+                    x: x[1],
+                    y: x[2],
+                    z: x[3],
+                },
+                second: Vector {
+                    x: x[4],
+                    y: x[5],
+                    z: x[6],
+                },
+                time: x[7],
+                way,
+                beginning,
+                limit,
+            }),
+            Options::Unread(j) => Given::Unread(j),
+        },
         Round::Unread(j) => Given::Unread(j),
     }
 }

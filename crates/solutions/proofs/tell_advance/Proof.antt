@@ -19,6 +19,12 @@ refused-requires c κs = search needs
 enum-known-a-2 : tie.Need-enum-known-a-2
 enum-known-a-2 c = search needs
 
+stopped-requires : tie.Need-stopped-requires
+stopped-requires c κs = search needs
+
+enum-known-a-3 : tie.Need-enum-known-a-3
+enum-known-a-3 c = search needs
+
 refused-requires-2 : tie.Need-refused-requires-2
 refused-requires-2 c κs = search needs
 
@@ -39,8 +45,14 @@ same-length-3 : tie.Need-same-length-3
 same-length-3 c = search needs
 
 returns-3 : tie.Need-returns-3
+returns-3 c = rw (c .before .before .before .before .before .a2 .given .1) (c .before .before .stopped .ensures)
+
+same-length-4 : tie.Need-same-length-4
+same-length-4 c = search needs
+
+returns-4 : tie.Need-returns-4
 unfolding advancedNumber
-returns-3 c = rw (c .before .before .before .before .before .a2 .given .1) (c .before .before .refused2 .ensures)
+returns-4 c = rw (c .before .before .before .before .before .a3 .given .1) (c .before .before .refused2 .ensures)
 
 pub tell-advance-spec : {M : Type 1} → statement M
 tell-advance-spec =
@@ -51,10 +63,14 @@ tell-advance-spec =
     enum-told
     refused-requires
     enum-known-a-2
+    stopped-requires
+    enum-known-a-3
     refused-requires-2
     same-length
     returns
     same-length-2
     returns-2
     same-length-3
-    returns-3)
+    returns-3
+    same-length-4
+    returns-4)

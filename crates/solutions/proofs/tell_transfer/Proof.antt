@@ -25,6 +25,12 @@ refused-requires-2 c κs = search needs
 enum-known-a-2 : tie.Need-enum-known-a-2
 enum-known-a-2 c = search needs
 
+stopped-requires : tie.Need-stopped-requires
+stopped-requires c κs = search needs
+
+enum-known-a-3 : tie.Need-enum-known-a-3
+enum-known-a-3 c = search needs
+
 refused-requires-3 : tie.Need-refused-requires-3
 refused-requires-3 c κs = search needs
 
@@ -52,8 +58,14 @@ same-length-4 : tie.Need-same-length-4
 same-length-4 c = search needs
 
 returns-4 : tie.Need-returns-4
+returns-4 c = rw (c .before .before .before .before .before .a2 .given .1) (c .before .before .stopped .ensures)
+
+same-length-5 : tie.Need-same-length-5
+same-length-5 c = search needs
+
+returns-5 : tie.Need-returns-5
 unfolding transferredNumber
-returns-4 c = rw (c .before .before .before .before .before .a2 .given .1) (c .before .before .refused3 .ensures)
+returns-5 c = rw (c .before .before .before .before .before .a3 .given .1) (c .before .before .refused3 .ensures)
 
 pub tell-transfer-spec : {M : Type 1} → statement M
 tell-transfer-spec =
@@ -66,6 +78,8 @@ tell-transfer-spec =
     enum-told-2
     refused-requires-2
     enum-known-a-2
+    stopped-requires
+    enum-known-a-3
     refused-requires-3
     same-length
     returns
@@ -74,4 +88,6 @@ tell-transfer-spec =
     same-length-3
     returns-3
     same-length-4
-    returns-4)
+    returns-4
+    same-length-5
+    returns-5)

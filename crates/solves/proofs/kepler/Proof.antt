@@ -1,34 +1,39 @@
--- By the numbers read. Assumes nothing.
-use mathlib.Core.Path.{_≡_, sym}
-use mathlib.Core.List.{List}
+-- By the numbers read, and what stands behind them. Assumes nothing.
+use mathlib.Core.Path.{_≡_, sym, ap, _∙_}
 use lib.ListN.{length}
-use lib.Ieee.{Float}
 use denote.Ref.{now}
-use Rattle.forms.specs.Forms.{numbers}
-use Rattle.forms.proofs.Rows.{all-there, one-bad}
-use Rattle.solves.proofs.Lists.{keplerOf}
-use borrow.Author.Needs.{needs}
 use native.Mathlib.Omega.{arith}
+use Rattle.forms.specs.Forms.{numbers}
+use Rattle.forms.proofs.Rows.{first-there, first-bad}
+use Rattle.options.specs.Options.{asked}
+use Rattle.options.specs.declared.Options.{Options}
+use Rattle.solves.proofs.Lists.{keplerAsk, keplerGo}
+use borrow.Author.Needs.{needs}
 use Rattle.solves.proofs.kepler.Statement.{statement}
 use Rattle.solves.proofs.kepler.Tie as tie
 
-slice-aggregate-only-numbers : tie.Need-slice-aggregate-only-numbers
-slice-aggregate-only-numbers c = search needs
+slice-aggregate-numbers : tie.Need-slice-aggregate-numbers
+slice-aggregate-numbers c = search needs
 
-only-numbers-requires : tie.Need-only-numbers-requires
-only-numbers-requires c κs = search needs
+numbers-requires : tie.Need-numbers-requires
+numbers-requires c κs = search needs
 
 returns : tie.Need-returns
 unfolding numbers
 returns c =
-    let s : length (c .before .before .only-numbers .last .1 .1 .0) ≡ 8 = omega (arith, c .before .before .only-numbers .kept .1 .1 .0) in
-    λ ask. sym (one-bad 8 (λ (xs : List Float). ask (keplerOf xs)) (now (c .before .before .before .before .before .args .line)) (c .before .before .before .before .before .args .k) (c .before .before .only-numbers .last .1 .1 .0) s (c .before .before .only-numbers .ensures) (c .if1 .taken))
+    let n = c .before .before .numbers in
+    let a = c .before .before .before .before .before .args in
+    let s : length (n .last .1 .1 .0) ≡ 8 = omega (arith, n .kept .1 .1 .0) in
+    λ ask. sym (first-bad 8 (keplerGo ask) (now (a .line)) (a .k) (n .last .1 .1 .0) s (n .ensures) (c .if1 .taken))
 
-array-read-t10 : tie.Need-array-read-t10
-array-read-t10 c = search needs
+add-read : tie.Need-add-read
+add-read c = search needs
 
-array-read-t13 : tie.Need-array-read-t13
-array-read-t13 c = search needs
+read-requires : tie.Need-read-requires
+read-requires c κs = search needs
+
+enum-known-beginning : tie.Need-enum-known-beginning
+enum-known-beginning c = search needs
 
 array-read-t16 : tie.Need-array-read-t16
 array-read-t16 c = search needs
@@ -45,28 +50,58 @@ array-read-t25 c = search needs
 array-read-t28 : tie.Need-array-read-t28
 array-read-t28 c = search needs
 
-array-read-t32 : tie.Need-array-read-t32
-array-read-t32 c = search needs
+array-read-t31 : tie.Need-array-read-t31
+array-read-t31 c = search needs
+
+array-read-t34 : tie.Need-array-read-t34
+array-read-t34 c = search needs
+
+array-read-t38 : tie.Need-array-read-t38
+array-read-t38 c = search needs
+
+enum-known-j : tie.Need-enum-known-j
+enum-known-j c = search needs
 
 returns-2 : tie.Need-returns-2
 unfolding numbers
 returns-2 c =
-    let s : length (c .before .before .only-numbers .last .1 .1 .0) ≡ 8 = omega (arith, c .before .before .only-numbers .kept .1 .1 .0) in
-    λ ask. sym (all-there 8 (λ (xs : List Float). ask (keplerOf xs)) (now (c .before .before .before .before .before .args .line)) (c .before .before .before .before .before .args .k) (c .before .before .only-numbers .last .1 .1 .0) s (c .before .before .only-numbers .ensures) (c .if1 .left))
+    let n = c .before .before .before .before .before .before .numbers in
+    let a = c .before .before .before .before .before .before .before .before .before .args in
+    let s : length (n .last .1 .1 .0) ≡ 8 = omega (arith, n .kept .1 .1 .0) in
+    λ ask.
+    first-there 8 (keplerGo ask) (now (a .line)) (a .k) (n .last .1 .1 .0) s (n .ensures) (c .before .before .before .before .if1 .left)
+    ∙ c .before .before .before .read .ensures (keplerAsk ask (n .last .1 .1 .0))
+    ∙ ap (λ (r : Options). asked r (keplerAsk ask (n .last .1 .1 .0))) (c .before .beginning .given .1)
+
+returns-3 : tie.Need-returns-3
+unfolding numbers
+returns-3 c =
+    let n = c .before .before .before .before .before .before .numbers in
+    let a = c .before .before .before .before .before .before .before .before .before .args in
+    let s : length (n .last .1 .1 .0) ≡ 8 = omega (arith, n .kept .1 .1 .0) in
+    λ ask.
+    first-there 8 (keplerGo ask) (now (a .line)) (a .k) (n .last .1 .1 .0) s (n .ensures) (c .before .before .before .before .if1 .left)
+    ∙ c .before .before .before .read .ensures (keplerAsk ask (n .last .1 .1 .0))
+    ∙ ap (λ (r : Options). asked r (keplerAsk ask (n .last .1 .1 .0))) (c .before .j .given .1)
 
 pub kepler-spec : {M : Type 1} → statement M
 kepler-spec =
     tie.close
     (tie.spec
-    slice-aggregate-only-numbers
-    only-numbers-requires
+    slice-aggregate-numbers
+    numbers-requires
     returns
-    array-read-t10
-    array-read-t13
+    add-read
+    read-requires
+    enum-known-beginning
     array-read-t16
     array-read-t19
     array-read-t22
     array-read-t25
     array-read-t28
-    array-read-t32
-    returns-2)
+    array-read-t31
+    array-read-t34
+    array-read-t38
+    enum-known-j
+    returns-2
+    returns-3)

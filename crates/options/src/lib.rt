@@ -1,0 +1,114 @@
+// What may stand behind an iterated solve: where its trials begin, and a limit on their count. What is there stands in
+// this order, and a word that is none of these cannot be read.
+ghost use Prim.Native.Nat.{_^_, _<_};
+ghost use mathlib.Core.Path.{_≡_};
+ghost use Rattle.words.specs.Words.{wordAt};
+ghost use Rattle.numerals.specs.Numbers.{wholeOf};
+ghost use Rattle.options.specs.Options.{ReadsEnd, ReadsStop, ReadsEnded, ReadsLimited, ReadsOptions};
+use forms::Judged;
+use iterator::Beginning;
+use iterator::Bracket;
+use iterator::Judgement;
+use numerals::Signed;
+use numerals::Whole;
+
+// A place on the grid and its judgement, or the number of the first word that cannot be read.
+enum End {
+    Read(i64, Judgement),
+    Unread(u64),
+}
+
+// A bracket, or likewise.
+enum Stop {
+    Read(Bracket),
+    Unread(u64),
+}
+
+// Where the trials begin and the limit on their count, or likewise.
+pub enum Options {
+    Read(Beginning, u64),
+    Unread(u64),
+}
+
+fn whole_at(line: &[u8], k: u64) -> Whole
+    ensures { λ r. ⌜ r ≡ wholeOf (wordAt k (now (line .entry))) ⌝ }
+{
+    numerals::read_whole(words::word(line, k))
+}
+
+fn end_at(line: &[u8], k: u64) -> End
+    requires { ⌜ k < 2 ^ 34 ⌝ }
+    ensures { λ r. ⌜ ReadsEnd r k (now (line .entry)) ⌝ }
+{
+    match forms::signed_at(line, k) {
+        Signed::Read(n) => match forms::judgement_at(line, k + 1) {
+            Judged::Read(j) => End::Read(n, j),
+            Judged::Unread => End::Unread(k + 2),
+        },
+        Signed::Unread => End::Unread(k + 1),
+    }
+}
+
+// LO JLO HI JHI COUNT.
+fn bracket_at(line: &[u8], k: u64) -> Stop
+    requires { ⌜ k < 2 ^ 33 ⌝ }
+    ensures { λ r. ⌜ ReadsStop r k (now (line .entry)) ⌝ }
+{
+    match end_at(line, k) {
+        End::Unread(w) => Stop::Unread(w),
+        End::Read(lo, below) => match end_at(line, k + 2) {
+            End::Unread(w) => Stop::Unread(w),
+            End::Read(hi, above) => match whole_at(line, k + 4) {
+                Whole::Unread => Stop::Unread(k + 5),
+                Whole::Read(count) => Stop::Read(Bracket {
+                    lo,
+                    hi,
+                    below,
+                    above,
+                    count,
+                }),
+            },
+        },
+    }
+}
+
+// No word more.
+fn ended(line: &[u8], k: u64, g: Beginning, l: u64) -> Options
+    requires { ⌜ k < 2 ^ 34 ⌝ }
+    ensures { λ r. ⌜ ReadsEnded r g l k (now (line .entry)) ⌝ }
+{
+    if forms::is_end(line, k) {
+        return Options::Read(g, l);
+    }
+    Options::Unread(k + 1)
+}
+
+// The limit, and no word more. Where none stands it is a count that no solve reaches.
+fn limited(line: &[u8], k: u64, g: Beginning) -> Options
+    requires { ⌜ k < 2 ^ 33 ⌝ }
+    ensures { λ r. ⌜ ReadsLimited r g k (now (line .entry)) ⌝ }
+{
+    let w = words::word(line, k);
+    if !words::is_word(w, b"limit") {
+        return ended(line, k, g, 18446744073709551615);
+    }
+    match whole_at(line, k + 1) {
+        Whole::Read(l) => ended(line, k + 2, g, l),
+        Whole::Unread => Options::Unread(k + 2),
+    }
+}
+
+// From the word behind the first k on, to the line's end.
+pub fn read(line: &[u8], k: u32) -> Options
+    ensures { λ r. ⌜ ReadsOptions r k (now (line .entry)) ⌝ }
+{
+    let at = k as u64;
+    let w = words::word(line, at);
+    if !words::is_word(w, b"from") {
+        return limited(line, at, Beginning::Start);
+    }
+    match bracket_at(line, at + 1) {
+        Stop::Read(b) => limited(line, at + 6, Beginning::Stopped(b)),
+        Stop::Unread(j) => Options::Unread(j),
+    }
+}
