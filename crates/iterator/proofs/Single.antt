@@ -284,11 +284,10 @@ more-is h = simp (in-grid-is h)
 -- ---- the single trial's number: 1 for a time that is not finite, then 6 unless the ends are sound
 pub trial-number : (asked : Float) (lo hi : ℤ) (below above : Judgement) (k : ℕ)
     → triedNumber (trialOf asked lo hi below above k) ≡ cond (not (allFinite asked below above)) 1 (cond (not (soundOf asked lo hi below above)) 6 0)
-unfolding trialOf triedNumber
+unfolding trialOf triedNumber nextTrialOf soundOf
 trial-number asked lo hi below above k = go (allFinite asked below above) (soundOf asked lo hi below above) refl
   where
     grid : soundOf asked lo hi below above ≡ true → inGrid lo hi ≡ true
-    unfolding soundOf
     grid e = and-0 (inGrid lo hi) _ e
 
     made : (g w : Bool) → g ≡ true → triedNumber (cond (not g) (Refused 6) (cond w (Point (pointOf asked lo hi below above k)) NoneLeft)) ≡ 0
@@ -297,7 +296,6 @@ trial-number asked lo hi below above k = go (allFinite asked below above) (sound
     made false w e = absurd (true≢false (sym e))
 
     next : inGrid lo hi ≡ true → triedNumber (nextTrialOf asked lo hi below above k) ≡ 0
-    unfolding nextTrialOf
     next e = made (inGrid lo hi) (ltb 1 (widthOf lo hi)) e
 
     go : (f s : Bool) → soundOf asked lo hi below above ≡ s
