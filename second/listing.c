@@ -47,17 +47,26 @@ static char *put_refusal(char *at, const reading *read)
     return put_text(put_whole(put_text(at, " at "), (int64_t)read->place.byte), "\n");
 }
 
+size_t listing_line(const reading *read, char out[40])
+{
+    char *end = out;
+    if (read->refused)
+        end = put_refusal(out, read);
+    else if (!read->end && !read->used_up && read->record.kind != OFFSET)
+        end = put_line(out, &read->record, read->place.offset);
+    return (size_t)(end - out);
+}
+
+const char listing_heading[] = "day cs vehicle kind\n";
+
 listed listing(const uint8_t *session, size_t size, char out[LISTING_MAX])
 {
-    char *at = put_text(out, "day cs vehicle kind\n");
+    char *at = put_text(out, listing_heading);
     for (place from = { 0, 0 };;) {
         reading read = read_record(session, size, from);
-        if (read.refused)
-            at = put_refusal(at, &read);
+        at += listing_line(&read, at);
         if (read.refused || read.end)
             return (listed){ (size_t)(at - out), read.refused != 0 };
-        if (read.record.kind != OFFSET)
-            at = put_line(at, &read.record, read.place.offset);
         from = read.place;
     }
 }

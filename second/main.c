@@ -39,6 +39,7 @@ static int help(void)
           "second list [FILE]               the listing of a session\n"
           "second show [FILE]               a session as text\n"
           "second write [--replace] FILE    a session of the text on standard input\n"
+          "second watch                     the listing of a session as it comes on standard input\n"
           "second requests SEED COUNT       lines for the desk\n"
           "second sessions SEED COUNT DIR   sessions, whole and damaged\n"
           "second texts SEED COUNT DIR      sessions as text, with faults\n"
@@ -62,6 +63,8 @@ int main(int words, char **word)
         return write_session(word[2], false);
     if (strcmp(what, "write") == 0 && words == 4 && strcmp(word[2], "--replace") == 0)
         return write_session(word[3], true);
+    if (strcmp(what, "watch") == 0 && words == 2)
+        return watch();
     if (strcmp(what, "requests") == 0 && words == 4)
         return make_requests(a, b), 0;
     if (strcmp(what, "sessions") == 0 && words == 5)

@@ -9,6 +9,7 @@
 int list(const char *name);
 int show(const char *name);
 int write_session(const char *name, bool replace);
+int watch(void);
 
 void make_requests(uint64_t seed, uint64_t count);
 int make_sessions(uint64_t seed, uint64_t count, const char *folder);

@@ -1,4 +1,4 @@
-/* The programs about records: list, show, write. */
+/* The programs about records: list, show, write, watch. */
 #include "programs.h"
 
 #include "files.h"
@@ -6,6 +6,7 @@
 #include "words.h"
 
 #include <stdio.h>
+#include <unistd.h>
 
 static uint8_t session[SESSION_MAX + 1];
 
@@ -76,4 +77,41 @@ int write_session(const char *name, bool replace)
         return 2;
     }
     return appear(name, session, used, replace) ? 0 : 2;
+}
+
+static void say_line(const reading *read)
+{
+    char line[64];
+    fwrite(line, 1, listing_line(read, line), stdout);
+}
+
+/* The lines of a part, up to its end or a refusal. */
+static reading watch_part(stream *s, const uint8_t *part, size_t size)
+{
+    reading read;
+    size_t taken = 0;
+    do {
+        read = take_part(s, part, size, &taken);
+        say_line(&read);
+    } while (!read.used_up && !read.refused);
+    fflush(stdout);
+    return read;
+}
+
+int watch(void)
+{
+    stream s = { 0 };
+    ssize_t size;
+    fputs(listing_heading, stdout);
+    fflush(stdout);
+    while ((size = read(STDIN_FILENO, session, sizeof session)) > 0)
+        if (watch_part(&s, session, (size_t)size).refused)
+            return 1;
+    if (size < 0) {
+        perror("standard input");
+        return 2;
+    }
+    reading end = end_parts(&s);
+    say_line(&end);
+    return end.refused != 0;
 }

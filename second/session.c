@@ -117,6 +117,50 @@ reading read_record(const uint8_t *session, size_t size, place from)
     return read_front(session + from.byte, size - from.byte, from);
 }
 
+/* In parts. */
+
+static reading ended(stream *s, reading answer)
+{
+    s->over = true;
+    s->last = answer;
+    return answer;
+}
+
+/* The bytes of this and of the parts ahead of it, up to 2^63 - 1. */
+static bool within_count(const stream *s, size_t left)
+{
+    return left <= (uint64_t)INT64_MAX - (s->at.byte + s->kept);
+}
+
+reading take_part(stream *s, const uint8_t *part, size_t size, size_t *taken)
+{
+    if (s->over)
+        return s->last;
+    if (!within_count(s, size - *taken))
+        return ended(s, refused(15, s->at));
+    while (*taken < size) {
+        s->unfinished[s->kept++] = part[(*taken)++];
+        reading read = read_front(s->unfinished, s->kept, s->at);
+        if (read.refused == 11)
+            continue;
+        if (read.refused)
+            return ended(s, read);
+        s->at = read.place;
+        s->kept = 0;
+        return read;
+    }
+    return (reading){ .used_up = true, .place = s->at };
+}
+
+reading end_parts(stream *s)
+{
+    if (s->over)
+        return s->last;
+    return ended(s, s->kept ? refused(11, s->at) : (reading){ .end = true, .place = s->at });
+}
+
+/* Writing. */
+
 static bool allowed(const record *r, bool first)
 {
     return r->kind == OFFSET ? first && offset_allowed(r->offset) : fields_allowed(r);

@@ -1,6 +1,7 @@
 #!/usr/bin/env bash
-# compare.sh stored | requests | stops | sessions | texts: the linked programs against the second program (second/), on the
-# stored requests, on fresh ones, on solves stopped by a limit and gone on with, on fresh sessions, and on sessions as text. The seed of the fresh ones is printed; CABIN_SEED=N makes the same again.
+# compare.sh stored | requests | stops | sessions | texts | parts: the linked programs against the second program (second/), on
+# the stored requests, on fresh ones, on solves stopped by a limit and gone on with, on fresh sessions, on sessions as text,
+# and on sessions that come in parts. The seed of the fresh ones is printed; CABIN_SEED=N makes the same again.
 home=$(cd "$(dirname "${BASH_SOURCE[0]}")/.." && pwd -P)
 . "$home/tools/front.sh"
 cd "$home"
@@ -79,6 +80,13 @@ texts() {
     ready show
     ready write
     python3 tools/records.py --texts ./cabin "$second" 60 "$seed"
+}
+
+# Sessions in parts.
+parts() {
+    echo "60 fresh sessions in parts, seed $seed"
+    ready watch
+    python3 tools/records.py --watch ./cabin "$second" 60 "$seed"
 }
 
 need make make

@@ -147,6 +147,16 @@ run_lines() { # NAME [WORD..]
     }
 }
 
+# Runs a program that is ready with its output as ours, each line at once, and keeps no more of it than the last line,
+# however long it is. Answers 1 where that is a refusal.
+run_stream() { # NAME [WORD..]
+    local last to
+    exec {to}>&1
+    last=$(run "$@" | tee --output-error=exit /dev/fd/3 3>&1 >&"$to" | tail -n 1) || return 2
+    exec {to}>&-
+    case $last in 'refused '*) return 1 ;; esac
+}
+
 # Does what COMMAND does, with its output as ours, and answers its status; what it says on standard error is in `said`.
 hear() { # COMMAND..
     local status=0 out

@@ -6,13 +6,16 @@ Where something has to be built, the front is copied to a room of its own with a
 handing out a program that is proved already."""
 import os
 import pathlib
+import pty
 import re
 import resource
+import select
 import shutil
 import subprocess
 import sys
 import tempfile
 import time
+import tty
 
 sys.path.insert(0, str(pathlib.Path(__file__).parent))
 from make_sample import listing, night, sample, text
@@ -145,6 +148,7 @@ def _():
         folder = os.open(room, os.O_RDONLY)
         hold(front("list", stdin=folder), 2, b"", "standard input")
         hold(front("desk", stdin=folder), 2, b"", "standard input")
+        hold(front("watch", stdin=folder), 2, None, "standard input")
         os.close(folder)
     with Room() as room:
         secret = room.write("secret", "")
@@ -324,18 +328,19 @@ def _():
 
 # ---- output that does not get through
 
-@case("a full device: 2 for list, desk and help")
+@case("a full device: 2 for list, watch, desk and help")
 def _():
     with open("/dev/full", "wb") as full:
         hold(front("list", SAMPLE, stdout=full), 2, None, "No space left")
         hold(front("list", stdout=full, given=REFUSED), 2, None, "No space left")
+        hold(front("watch", stdout=full, given=REFUSED), 2, None, "No space left")
         hold(front("desk", stdout=full, given=b"root 2\n"), 2, None, "No space left")
         hold(front("help", stdout=full), 2, None, "No space left")
 
 
-@case("closed output: 2 for list, desk and help")
+@case("closed output: 2 for list, watch, desk and help")
 def _():
-    for words in (["list", SAMPLE], ["desk"], ["help"]):
+    for words in (["list", SAMPLE], ["watch"], ["desk"], ["help"]):
         hold(front(*words, given=b"root 2\n", closed=[1]), 2, b"", "standard output is closed")
 
 
@@ -349,13 +354,14 @@ def _():
 @case("closed input: 2 where it is read, and no matter where it is not")
 def _():
     hold(front("list", closed=[0]), 2, b"", "standard input is closed")
+    hold(front("watch", closed=[0]), 2, b"", "standard input is closed")
     hold(front("desk", closed=[0]), 2, b"", "standard input is closed")
     hold(front("list", SAMPLE, closed=[0]), 0, WHOLE)
 
 
-@case("a reader that has gone: 2 for list and desk")
+@case("a reader that has gone: 2 for list, watch and desk")
 def _():
-    for words in (["list", SAMPLE], ["desk"]):
+    for words in (["list", SAMPLE], ["watch"], ["desk"]):
         gone, end = os.pipe()
         os.close(gone)
         hold(front(*words, stdout=end, given=b"root 2\n"), 2, None, "Broken pipe")
@@ -377,6 +383,98 @@ def _():
         with open(file.name, "ab") as more:
             hold(front("list", SAMPLE, stdout=more), 0)
         assert pathlib.Path(file.name).read_bytes() == b"ahead\n" + WHOLE
+
+
+# ---- a session as it comes
+
+class Coming:
+    """./cabin watch on an input that stays open."""
+
+    def __init__(self):
+        self.front = subprocess.Popen([ROOT / "cabin", "watch"], stdin=subprocess.PIPE, stdout=subprocess.PIPE, stderr=subprocess.PIPE)
+
+    def __enter__(self):
+        return self
+
+    def __exit__(self, *_):
+        for stream in (self.front.stdin, self.front.stdout, self.front.stderr):
+            stream.close()
+        self.front.wait(60)
+
+    def send(self, some):
+        os.write(self.front.stdin.fileno(), some)
+
+    def line(self):
+        """The next line; a time-out where none comes."""
+        if not select.select([self.front.stdout], [], [], 30)[0]:
+            raise AssertionError("a line is due and does not come")
+        return os.read(self.front.stdout.fileno(), 4096)
+
+
+@case("a session as it comes: 0, and 1 with the lines ahead where a record is refused or cut")
+def _():
+    hold(front("watch", given=sample()), 0, WHOLE)
+    hold(front("watch"), 0, listing(b""))
+    hold(front("watch", given=REFUSED), 1, listing(REFUSED), "counted from the start of the session")
+    for cut in (1, 3, 4, 61):
+        hold(front("watch", given=sample()[:452 + cut - 62]), 1, listing(sample()[:452 + cut - 62]), "refused")
+
+
+@case("an input that stays open: each line comes before the next byte is sent, and a refusal ends it")
+def _():
+    with Coming() as coming:
+        assert coming.line() == listing(b"")
+        at, told = 0, listing(b"")
+        for length in (62, 38, 62):
+            for _byte in range(length):
+                coming.send(sample()[at:at + 1])
+                at += 1
+            told += coming.line()
+            assert told == listing(sample()[:at]), (at, told)
+        coming.send(b"\x26\x00\x09\x00")
+        assert coming.line() == b"refused 13 at 162\n"
+        assert coming.front.wait(30) == 1, coming.front.stderr.read()
+
+
+@case("a serial line is listed as it comes; where it hangs up, the input ends or cannot be read, as the system has it")
+def _():
+    end, line = pty.openpty()
+    tty.setraw(line)
+    ran = subprocess.Popen([ROOT / "cabin", "watch"], stdin=line, stdout=subprocess.PIPE, stderr=subprocess.PIPE)
+    os.close(line)
+    assert ran.stdout.readline() == listing(b"")
+    os.write(end, night()[:8 + 62])
+    assert ran.stdout.readline() == b"4 8580000 0 state\n"
+    os.write(end, night()[8 + 62:8 + 62 + 62])
+    assert ran.stdout.readline() == b"4 8580000 1 state\n"
+    os.close(end)
+    wrote, said = ran.communicate(timeout=60)
+    assert wrote == b"" and (ran.returncode, said) in ((0, b""), (2, b"cabin: standard input: Input/output error\n")), (ran.returncode, wrote, said)
+
+
+@case("a session as it comes is added to a file, which stays")
+def _():
+    with tempfile.NamedTemporaryFile() as file:
+        file.write(b"ahead\n")
+        file.flush()
+        with open(file.name, "ab") as more:
+            hold(front("watch", given=sample(), stdout=more), 0)
+        assert pathlib.Path(file.name).read_bytes() == b"ahead\n" + WHOLE
+
+
+@case("a long session as it comes takes no more memory than a short one")
+def _():
+    def peak(times):
+        ran = subprocess.Popen(["bash", "-c", f'for k in $(seq {times}); do cat "$1"; done | "$0" watch', ROOT / "cabin", LONG], stdout=subprocess.PIPE)
+        size = len(ran.stdout.read())
+        _pid, status, used = os.wait4(ran.pid, 0)
+        assert status == 0 and size == len(listing(b"")) + times * (len(listing(LONG.read_bytes())) - len(listing(b""))), (status, size)
+        return used.ru_maxrss
+    with tempfile.NamedTemporaryFile() as file:
+        LONG = pathlib.Path(file.name)
+        LONG.write_bytes(sample() * 140)
+        short, long = peak(1), peak(100)
+        assert long < short + 1024, (short, long)
 
 
 # ---- folders that cannot be used

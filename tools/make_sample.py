@@ -56,13 +56,14 @@ def decode(s, first):
     return (time, vehicle, kind), length
 
 
-def listing(s):
+def listing(s, limit=65536):
+    """The listing of a session; without a limit (None) that of a session as it comes."""
     lines, at, minutes = ['day cs vehicle kind'], 0, 0
-    if len(s) > 65536:
+    if limit is not None and len(s) > limit:
         lines.append('refused 12 at 0')
         at = len(s)
     while at < len(s):
-        got = decode(s[at:], at == 0)
+        got = decode(s[at:at + 62], at == 0)
         if isinstance(got, int):
             lines.append('refused %d at %d' % (got, at))
             break
@@ -170,6 +171,8 @@ def files():
         'crates/show/stdout': text(refused),
         'crates/write/stdin': text(offset(-840) + whole + ends),
         'crates/write/stdout': offset(-840) + whole + ends,
+        'crates/watch/stdin': refused,
+        'crates/watch/stdout': listing(refused, None),
     }
 
 

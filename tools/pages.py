@@ -32,6 +32,7 @@ CASES = {
     "writer": [("writer/specs/Write", REFUSED)],
     "reader": [("session/specs/Decode", REFUSED), ("session/specs/Offset", REFUSED), ("session/specs/Read", REFUSED)],
     "listing": [("session/specs/Decode", REFUSED), ("session/specs/Offset", REFUSED), ("session/specs/Read", REFUSED), ("lines/specs/Lines", REFUSED)],
+    "stream": [("session/specs/Decode", REFUSED), ("session/specs/Offset", REFUSED), ("stream/specs/Stream", REFUSED)],
 }
 
 

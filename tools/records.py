@@ -2,18 +2,27 @@
 """records: our programs about records against the second program's, on fresh sessions and texts.
 
   tools/records.py --texts OURS SECOND [COUNT [SEED]]   show and write (02, T-01)
+  tools/records.py --watch OURS SECOND [COUNT [SEED]]   watch, the session cut anywhere (02, T-08)
 
 OURS and SECOND start a program: `OURS show FILE`. COUNT sessions and COUNT texts are made (60 unless said). Comments for
-people are held to their fixed part and to their decimals. Exits 1 at a difference."""
+people are held to their fixed part and to their decimals. What `watch` writes must be there when the bytes that make it certain
+are, and a refusal must end it though its input stays open. Exits 1 at a difference."""
+import os
 import pathlib
+import random
 import re
+import select
 import shlex
 import subprocess
 import sys
 import tempfile
 import time
 
+sys.path.insert(0, str(pathlib.Path(__file__).parent))
+from make_sample import listing
+
 SHOWN = 10
+PATIENCE = 10  # seconds in which a line must come
 COMMENT = re.compile(r"# (day \S+ cs \S+: \S+ of vehicle \d+|offset -?\d+|refused \d+ at \d+$)")
 DECIMAL = re.compile(r"-?\d+\.\d{6}\b|\blarge\b")
 
@@ -83,7 +92,106 @@ def texts(ours, second, count, seed, room):
     return found.count
 
 
-WAYS = {"--texts": texts}
+def certain(prefix, whole):
+    """What must be written when this much of a session has come."""
+    lines = listing(prefix).decode().splitlines(True)
+    if lines[-1].startswith("refused 11 ") and not whole:
+        lines.pop()
+    return "".join(lines).encode()
+
+
+class Watch:
+    """A program that watches its standard input, and what it wrote so far."""
+
+    def __init__(self, command):
+        self.program = subprocess.Popen([*shlex.split(command), "watch"], stdin=subprocess.PIPE, stdout=subprocess.PIPE, stderr=subprocess.DEVNULL)
+        self.text, self.ended = b"", False
+
+    def send(self, part):
+        try:
+            self.program.stdin.write(part)
+            self.program.stdin.flush()
+        except BrokenPipeError:
+            pass
+
+    def wait_for(self, enough):
+        """Reads until enough has come; false if it does not."""
+        until = time.monotonic() + PATIENCE
+        while not self.ended and not enough(self.text):
+            ready, _, _ = select.select([self.program.stdout], [], [], max(0, until - time.monotonic()))
+            got = os.read(self.program.stdout.fileno(), 65536) if ready else None
+            if got is None:
+                return False
+            self.ended = got == b""
+            self.text += got
+        return enough(self.text)
+
+    def end(self):
+        """The exit status and the whole text, its input open where a refusal must end it."""
+        refused = b"\nrefused " in self.text
+        if not refused:
+            self.close()
+        prompt = self.wait_for(lambda _: self.ended)
+        self.close()
+        if not prompt:
+            self.program.kill()
+        return self.program.wait(), self.text, prompt
+
+    def close(self):
+        try:
+            self.program.stdin.close()
+        except BrokenPipeError:
+            pass
+
+
+def starts(session):
+    """Where its records start, as far as their lengths can be gone along."""
+    at = 0
+    while at + 2 <= len(session) and session[at] >= 4 and session[at + 1] == 0:
+        yield at
+        at += session[at]
+    yield at
+
+
+def parts(session, dice):
+    """A session cut at some places, some of them twice, and some beside the start of a record or behind its kind."""
+    anywhere = [dice.randrange(len(session) + 1) for _ in range(dice.choice((0, 1, 3, 10, 40)))]
+    beside = [start + dice.choice((-1, 0, 1, 3, 4, 5)) for start in starts(session) if dice.randrange(2)][-40:]
+    cuts = sorted(min(max(cut, 0), len(session)) for cut in anywhere + beside)
+    return [session[a:b] for a, b in zip([0, *cuts], [*cuts, len(session)])]
+
+
+def watched(command, pieces):
+    """What is written of a session in parts, and how many of its lines came late."""
+    watch, sent, late = Watch(command), b"", 0
+    long = sum(map(len, pieces)) > 65536
+    for piece in pieces:
+        watch.send(piece)
+        sent += piece
+        wanted = b"" if long else certain(sent, False)
+        late += not watch.wait_for(lambda text: text.startswith(wanted))
+        if late:
+            break
+    code, text, prompt = watch.end()
+    return code, text, late, prompt
+
+
+def watch(ours, second, count, seed, room):
+    found, dice = Differences(), random.Random(seed)
+    for path in made(second, "sessions", count, seed, room):
+        if found.count >= SHOWN:  # a line that does not come takes its time
+            break
+        session = path.read_bytes()
+        pieces = parts(session, dice)
+        got = watched(ours, pieces)
+        found.look(f"watch of session {path.name} in {len(pieces)} parts", got, watched(second, pieces))
+        if len(session) <= 65536:
+            found.look(f"watch and list of session {path.name}", got[1], certain(session, True))
+    print(f"{count} sessions watched in parts, seed {seed}: {found.count} differences")
+    return found.count
+
+
+WAYS = {"--texts": texts, "--watch": watch}
 
 
 def main(way, ours, second, count=60, seed=None):
