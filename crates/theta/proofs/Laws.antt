@@ -90,12 +90,12 @@ module _ (mu : Float) (s : State) (sin cos : Float) where
 
   -- the number of the first row that applies, in the order of the table
   pub theta-table : numberOf (thetaOf mu s sin cos) ≡ cond (Tests.passes (firstFailing tests)) (numberOf (toldOf s (reachOf (arcOf mu S)))) (firstRow tableOrder tests)
+  unfolding answered numberOf Tests.passes Tests.numberOf
   theta-table =
       by-tests (firstFailing tests)
       ∙ ap (λ (n : ℕ). cond (Tests.passes (firstFailing tests)) (numberOf (toldOf s (reachOf (arcOf mu S)))) n) (first-row tableOrder tests refl)
     where
       by-tests : (p : Test) → numberOf (answered p (toldOf s (reachOf (arcOf mu S)))) ≡ cond (Tests.passes p) (numberOf (toldOf s (reachOf (arcOf mu S)))) (Tests.numberOf p)
-      unfolding answered numberOf Tests.passes Tests.numberOf
       by-tests Passed = refl
       by-tests (Failed e) = refl
 
