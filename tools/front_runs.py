@@ -11,6 +11,7 @@ import re
 import resource
 import select
 import shutil
+import struct
 import subprocess
 import sys
 import tempfile
@@ -324,6 +325,128 @@ def _():
         said = [one.communicate(given, timeout=60)[1] for one, given in zip(both, (TEXT, text(night())))]
         assert sorted(one.returncode for one in both) == [0, 2], said
         room.holds(file=[sample(), night()][both[0].returncode != 0])
+# ---- settings
+
+EARTH = (0, 39860120000.0, 6378166.0, 2.0 ** -20, 2.0 ** -10)
+MOON = (1, 490277800.0, 1738090.0, 2.0 ** -20, 2.0 ** -10)
+
+
+def bits(number):
+    return "x" + struct.pack(">d", number).hex().upper()
+
+
+def version(number, body, *constants):
+    """The bytes of a version, and its line's end."""
+    return struct.pack("<HHIB3x4d", 44, 5, number, body, *constants), (" bits " + " ".join(map(bits, constants)) + "\n").encode()
+
+
+def store(file, body, *constants, **more):
+    return front("settings", file, "store", str(body), *map(bits, constants), **more)
+
+
+@case("settings: stored, listed, shown, gone back to; a file that is not there has no version")
+def _():
+    with tempfile.TemporaryDirectory() as room:
+        file = pathlib.Path(room) / "settings"
+        hold(front("settings", file, "list"), 0, b"")
+        hold(front("settings", file, "show", "1"), 1, b"refused 23\n", "as it was")
+        hold(front("settings", file, "back", "1"), 1, b"refused 23\n", "as it was")
+        assert not os.listdir(room)
+        lines = []
+        for number, (one, got) in enumerate([(EARTH, lambda: store(file, *EARTH)), (MOON, lambda: store(file, *MOON)), (EARTH, lambda: front("settings", file, "back", "1"))], 1):
+            status, line, said = got()
+            assert (status, said) == (0, "") and line.startswith(b"version %d body %d mu " % (number, one[0])) and line.endswith(version(number, *one)[1]), line
+            lines.append(line)
+        assert file.read_bytes() == version(1, *EARTH)[0] + version(2, *MOON)[0] + version(3, *EARTH)[0]
+        hold(front("settings", file, "list"), 0, b"".join(lines))
+        for number, line in enumerate(lines, 1):
+            hold(front("settings", file, "show", str(number)), 0, line)
+        assert os.listdir(room) == ["settings"]
+
+
+@case("settings: what is refused gives 1 and its number, in the order of the table, and leaves every byte")
+def _():
+    with tempfile.TemporaryDirectory() as room:
+        file = pathlib.Path(room) / "settings"
+        whole = version(1, *EARTH)[0] + version(2, *MOON)[0]
+        full = b"".join(version(k, *EARTH)[0] for k in range(1, 65))
+        wrong = (2, float("nan"), -1.0, 2.0, 1.0)
+        cases = [(whole, ["show", "0"], 23), (whole, ["show", "3"], 23), (whole, ["back", "18446744073709551615"], 23),
+                 (full, ["back", "65"], 23), (full, ["back", "64"], 24), (full, ["store", "0", *map(bits, EARTH[1:])], 24),
+                 (full, ["store", "2", *map(bits, EARTH[1:])], 14)]
+        damaged = [whole[:-1], whole + b"\0", whole[44:], whole[:44] + whole[:44], full + version(65, *MOON)[0], full + full]
+        damaged += [whole[:k] + bytes([whole[k] ^ 255]) + whole[k + 1:] for k in (44, 46, 48, 52, 53, 55, 63, 71, 79, 87)]
+        for bytes_of in damaged:
+            cases += [(bytes_of, words, 30) for words in (["list"], ["show", "0"], ["back", "99"], ["store", "2", *map(bits, wrong[1:])])]
+        for number, change in ((1, wrong), (2, (2, 1.0, -1.0, 2.0, 1.0)), (22, (2, MOON[1], 0.0, 0.5, 0.5)), (22, (2, MOON[1], 1.0, 0.5, 0.25)),
+                               (22, (2, MOON[1], 2.0 ** 29, 0.0, 1.0)), (22, (2, MOON[1], 1.0, 0.5, 1.5)), (14, (2, MOON[1], 1.0, 0.5, 0.5))):
+            cases.append((whole, ["store", str(change[0]), *map(bits, change[1:])], number))
+        for bytes_of, words, number in cases:
+            file.write_bytes(bytes_of)
+            hold(front("settings", file, *words), 1, b"refused %d\n" % number, "docs/pages/settings.md")
+            assert file.read_bytes() == bytes_of and os.listdir(room) == ["settings"], words
+
+
+@case("settings: words that cannot be read give 2, say which, and leave every byte")
+def _():
+    with tempfile.TemporaryDirectory() as room:
+        file = pathlib.Path(room) / "settings"
+        file.write_bytes(version(1, *EARTH)[0])
+        for words, says in ((["lists"], "'lists', word 1"), (["show"], "word 2 .* missing"), (["show", "-1"], "'-1', word 2"), (["show", "1", "2"], "'2', word 3"),
+                            (["back", "18446744073709551616"], "word 2"), (["store", "0", "1", "2", "3"], "word 6 .* missing"), (["store", "0", "1", "inf", "3", "4"], "'inf', word 4"), ([" "], "word 1")):
+            hold(front("settings", file, *words), 2, b"", says)
+        assert file.read_bytes() == version(1, *EARTH)[0] and os.listdir(room) == ["settings"]
+
+
+@case("settings: eight stores at once keep eight versions, and a list meanwhile is whole")
+def _():
+    with tempfile.TemporaryDirectory() as room:
+        file = pathlib.Path(room) / "settings"
+        words = [ROOT / "cabin", "settings", file, "store", "0", *map(bits, EARTH[1:])]
+        uses = [subprocess.Popen(words, stdout=subprocess.PIPE, stderr=subprocess.DEVNULL) for _ in range(8)]
+        hold(front("settings", file, "list"), 0)
+        numbers = sorted(int(use.communicate(timeout=60)[0].split()[1]) for use in uses)
+        assert numbers == list(range(1, 9)), numbers
+        assert file.read_bytes() == b"".join(version(k, *EARTH)[0] for k in range(1, 9)) and os.listdir(room) == ["settings"]
+
+
+@case("settings: a store that is killed at any point has stored its version or has changed nothing")
+def _():
+    with tempfile.TemporaryDirectory() as room:
+        file = pathlib.Path(room) / "settings"
+        hold(store(file, *EARTH), 0)
+        words = [ROOT / "cabin", "settings", file, "store", "0", *map(bits, EARTH[1:])]
+        for k in range(24):
+            before = file.read_bytes()
+            use = subprocess.Popen(words, stdout=subprocess.DEVNULL, stderr=subprocess.DEVNULL, start_new_session=True)
+            time.sleep(0.015 * k)
+            os.killpg(use.pid, 9)
+            use.wait()
+            after = file.read_bytes()
+            assert after in (before, before + version(len(before) // 44 + 1, *EARTH)[0]), (k, len(before), len(after))
+        hold(store(file, *EARTH), 0)
+
+
+@case("settings that cannot be read or replaced: 2, and they stay; a link stays a link, and the mode is kept")
+def _():
+    with tempfile.TemporaryDirectory() as room:
+        room = pathlib.Path(room)
+        file = room / "settings"
+        hold(front("settings", room, "list"), 2, b"", "cannot be read")
+        hold(front("settings", "", "list"), 2, b"", "name is empty")
+        hold(store(room / "none" / "settings", *EARTH), 2, b"", "no folder")
+        hold(front("settings", room / "none" / "settings", "list"), 0, b"")
+        hold(store(file, *EARTH, limit=20), 2, b"", "File too large")
+        assert not os.listdir(room)
+        hold(store(file, *EARTH), 0)
+        hold(store(file, *EARTH, limit=50), 2, b"", "File too large")
+        with open("/dev/full", "wb") as full:
+            hold(front("settings", file, "list", stdout=full), 2, None, "No space left")
+        file.chmod(0o640)
+        (room / "link").symlink_to("settings")
+        hold(store(room / "link", *MOON), 0)
+        assert (room / "link").is_symlink() and file.stat().st_mode & 0o777 == 0o640
+        assert file.read_bytes() == version(1, *EARTH)[0] + version(2, *MOON)[0] and sorted(os.listdir(room)) == ["link", "settings"]
 
 
 # ---- output that does not get through

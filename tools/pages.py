@@ -26,6 +26,7 @@ CASES = {
     "transfer-time": [("theta/specs/Theta", TESTS), ("theta/specs/Theta", r"^numberOf Too\w+ = ([78])")],
     "apsides": [("apsides/specs/Apsides", TESTS)],
     "sight": [("sight/specs/Sight", TESTS), ("wheel/specs/Wheel", REFUSED)],
+    "settings": [("settings/specs/Allowed", TESTS), ("settings/specs/Allowed", r"^refusalBy Passed \w+ = cond \S+ \d+ \w+\) (\d+) 0"), ("settings/specs/History", REFUSED)],
     "root": [("root/specs/Root", REFUSED)],
     "series": [("series/specs/Series", REFUSED)],
     "trial": [("iterator/specs/Single", REFUSED)],
