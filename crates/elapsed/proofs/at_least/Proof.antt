@@ -13,6 +13,7 @@ use mir.Facts.{toZ-ofZ}
 
 use Rattle.elapsed.specs.Elapsed.{raised, atLeast}
 use Rattle.elapsed.proofs.Raised.{least-earlier, least-later}
+use borrow.Author.Tests.{lt-ltb, le-ltb}
 use borrow.Author.Needs.{needs}
 use Rattle.elapsed.proofs.at_least.Statement.{statement}
 use Rattle.elapsed.proofs.at_least.Tie as tie
@@ -36,7 +37,7 @@ returns : tie.Need-returns
 unfolding atLeast
 returns c =
     let i = c .before .before .before in
-    sym (least-earlier (i .args .from) (i .args .to) (i .args .cs) (i .fits .from .sfits) (i .fits .to .sfits) (sym (order (c .before)) ∙ c .if1 .taken))
+    sym (least-earlier (i .args .from) (i .args .to) (i .args .cs) (i .fits .from .sfits) (i .fits .to .sfits) (sym (order (c .before)) ∙ lt-ltb _ _ (c .if1 .taken)))
 
 returns-2 : tie.Need-returns-2
 unfolding atLeast
@@ -44,7 +45,7 @@ returns-2 c =
     let i = c .before .before .before in
     ap (λ (n : ℕ). leb (i .args .cs) (n - c .before .before .raise .result)) (second (c .before))
     ∙ ap (λ (n : ℕ). leb (i .args .cs) (raised (i .args .to) - n)) (first (c .before .before))
-    ∙ sym (least-later (i .args .from) (i .args .to) (i .args .cs) (i .fits .from .sfits) (i .fits .to .sfits) (sym (order (c .before)) ∙ c .if1 .left))
+    ∙ sym (least-later (i .args .from) (i .args .to) (i .args .cs) (i .fits .from .sfits) (i .fits .to .sfits) (sym (order (c .before)) ∙ le-ltb _ _ (c .if1 .left)))
 
 pub at-least-spec : {M : Type 1} → statement M
 at-least-spec = tie.close (tie.spec raise-requires raise-requires-2 returns returns-2)

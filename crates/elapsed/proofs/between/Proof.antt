@@ -15,7 +15,7 @@ use Rattle.elapsed.specs.declared.Elapsed.{Elapsed}
 use Rattle.elapsed.specs.declared.Elapsed.the-variants.{Cs, TooLong}
 use Rattle.elapsed.specs.Elapsed.{raised, apartOf, elapsedOf}
 use Rattle.elapsed.proofs.Raised.{size-is, mag-size}
-use borrow.Author.Tests.{ltb-false}
+use borrow.Author.Tests.{lt-ltb, le-ltb, ltb-false}
 use borrow.Author.Needs.{needs}
 use Rattle.elapsed.proofs.between.Statement.{statement}
 use Rattle.elapsed.proofs.between.Tie as tie
@@ -43,7 +43,7 @@ unfolding elapsedOf
 returns c =
     let i = c .before .before .before .before in
     let d = i .args .to -ℤ i .args .from in
-    sym (ap (λ (t : Bool). cond t TooLong (Cs (ofInt binary64 d))) (sym (ap (ltb 268435456) (sized (c .before))) ∙ c .if1 .taken))
+    sym (ap (λ (t : Bool). cond t TooLong (Cs (ofInt binary64 d))) (sym (ap (ltb 268435456) (sized (c .before))) ∙ lt-ltb _ _ (c .if1 .taken)))
 
 -- the difference, from the bits of both, and that it fits
 back : (c : tie.Start) → toZ w64 (ofZ w64 (c .args .to)) -ℤ toZ w64 (ofZ w64 (c .args .from)) ≡ c .args .to -ℤ c .args .from
@@ -53,7 +53,7 @@ small : (c : tie.Else1) → let i = c .before .before .before .before in SFits w
 small c =
     let i = c .before .before .before .before in
     let d = i .args .to -ℤ i .args .from in
-    record { sfits = under (mag d) (natAbs d) (mag-size d) (ltb-false 268435456 (natAbs d) (sym (ap (ltb 268435456) (sized (c .before))) ∙ c .if1 .left)) }
+    record { sfits = under (mag d) (natAbs d) (mag-size d) (ltb-false 268435456 (natAbs d) (sym (ap (ltb 268435456) (sized (c .before))) ∙ le-ltb _ _ (c .if1 .left))) }
   where
     under : (m n : ℕ) → m ≤ n → n ≤ 268435456 → m < 2 ^ 63
     under m n h k = omega arith
@@ -71,7 +71,7 @@ returns-2 c =
     let i = e .before .before .before .before in
     let d = i .args .to -ℤ i .args .from in
     ap Cs (c .nearest-i64-to-f64 .ensures ∙ ap (ofInt binary64) (ap (λ (z : ℤ). toZ w64 (ofZ w64 z)) (back i) ∙ toZ-ofZ (small e)))
-    ∙ sym (ap (λ (t : Bool). cond t TooLong (Cs (ofInt binary64 d))) (sym (ap (ltb 268435456) (sized (e .before))) ∙ e .if1 .left))
+    ∙ sym (ap (λ (t : Bool). cond t TooLong (Cs (ofInt binary64 d))) (sym (ap (ltb 268435456) (sized (e .before))) ∙ le-ltb _ _ (e .if1 .left)))
 
 pub between-spec : {M : Type 1} → statement M
 between-spec =
