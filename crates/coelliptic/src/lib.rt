@@ -116,5 +116,8 @@ pub fn new_velocity(active: State, v: Speeds) -> Vector
     let w = unit(vector::position(active));
     let across = vector::cross(normal(active), w);
     let horizontal = root::square_root(v.radicand);
-    vector::sum(vector::scaled(v.radial, w), vector::scaled(horizontal, across))
+    vector::sum(
+        vector::scaled(v.radial, w),
+        vector::scaled(horizontal, across),
+    )
 }

@@ -28,8 +28,10 @@ sub-same x y a b e = go (ltb a b) refl
   where
     below : (x y a b : ℕ) → x + b ≡ a + y → a < b → y ≡ x + suc (b - suc a)
     below x y a b e h = omega arith
+
     above : (x y a b : ℕ) → x + b ≡ a + y → b ≤ a → x ≡ y + (a - b)
     above x y a b e h = omega arith
+
     go : (t : Bool) → ltb a b ≡ t → subℕ x y ≡ cond t (negsuc (b - suc a)) (pos (a - b))
     go true h = sub-neg x y (b - suc a) (below x y a b e (ltb-true a b h))
     go false h = sub-pos x y (a - b) (above x y a b e (ltb-false a b h))
@@ -39,8 +41,10 @@ sub-apart x y = go (ltb x y) refl
   where
     below : (x y : ℕ) → x < y → suc (y - suc x) ≡ (y - x) + (x - y)
     below x y h = omega arith
+
     above : (x y : ℕ) → y ≤ x → x - y ≡ (y - x) + (x - y)
     above x y h = omega arith
+
     go : (t : Bool) → ltb x y ≡ t → natAbs (cond t (negsuc (y - suc x)) (pos (x - y))) ≡ (y - x) + (x - y)
     go true h = below x y (ltb-true x y h)
     go false h = above x y (ltb-false x y h)

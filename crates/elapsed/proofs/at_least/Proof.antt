@@ -10,7 +10,6 @@ use lib.Ieee.{Float, binary64, ofInt}
 use mir.Syntax.{w64}
 use mir.Val.{SFits, toZ, ofZ}
 use mir.Facts.{toZ-ofZ}
-
 use Rattle.elapsed.specs.Elapsed.{raised, atLeast}
 use Rattle.elapsed.proofs.Raised.{least-earlier, least-later}
 use borrow.Author.Tests.{lt-ltb, le-ltb}

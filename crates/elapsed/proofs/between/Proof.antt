@@ -10,7 +10,6 @@ use lib.Ieee.{Float, binary64, ofInt}
 use mir.Syntax.{w64}
 use mir.Val.{SFits, toZ, ofZ}
 use mir.Facts.{toZ-ofZ}
-
 use Rattle.elapsed.specs.declared.Elapsed.{Elapsed}
 use Rattle.elapsed.specs.declared.Elapsed.the-variants.{Cs, TooLong}
 use Rattle.elapsed.specs.Elapsed.{raised, apartOf, elapsedOf}
