@@ -1,10 +1,11 @@
 #include "desk.h"
 
+#include "pen.h"
 #include "real.h"
 #include "sight.h"
+#include "words.h"
 
 #include <inttypes.h>
-#include <stdarg.h>
 #include <stdio.h>
 
 const form forms[ROUTINES] = {
@@ -22,126 +23,6 @@ const form forms[ROUTINES] = {
 
 /* Reading. */
 
-typedef struct { const char *at; size_t length; } span;
-
-static bool is_blank(char c)
-{
-    return c == ' ' || c == '\t' || c == '\r';
-}
-
-/* Takes the next word off the front of a line; an empty one at its end. */
-static span take_word(span *line)
-{
-    while (line->length > 0 && is_blank(*line->at))
-        line->at++, line->length--;
-    span w = { line->at, 0 };
-    while (line->length > 0 && !is_blank(*line->at))
-        line->at++, line->length--, w.length++;
-    return w;
-}
-
-static bool span_is(span w, const char *text)
-{
-    return w.length == strlen(text) && memcmp(w.at, text, w.length) == 0;
-}
-
-static bool span_begins(span w, const char *text)
-{
-    return w.length >= strlen(text) && memcmp(w.at, text, strlen(text)) == 0;
-}
-
-static span behind(span w, size_t bytes)
-{
-    return (span){ w.at + bytes, w.length - bytes };
-}
-
-static bool is_digit(char c)
-{
-    return '0' <= c && c <= '9';
-}
-
-static int hex_digit(char c)
-{
-    if (is_digit(c))
-        return c - '0';
-    if ('a' <= c && c <= 'f')
-        return c - 'a' + 10;
-    return 'A' <= c && c <= 'F' ? c - 'A' + 10 : -1;
-}
-
-static bool read_bits(span w, double *out)
-{
-    if (w.length != 16)
-        return false;
-    uint64_t bits = 0;
-    for (size_t k = 0; k < w.length; k++) {
-        if (hex_digit(w.at[k]) < 0)
-            return false;
-        bits = bits << 4 | (uint64_t)hex_digit(w.at[k]);
-    }
-    *out = of_bits(bits);
-    return true;
-}
-
-/* At most 15 digits and the power of ten are exact in f64, so the one division gives the nearest. */
-static bool read_decimal(span w, double *out)
-{
-    bool negative = span_begins(w, "-"), point = false;
-    if (negative || span_begins(w, "+"))
-        w = behind(w, 1);
-    uint64_t digits = 0;
-    int count = 0;
-    double power = 1;
-    for (size_t k = 0; k < w.length; k++) {
-        if (w.at[k] == '.' && !point && count > 0) {
-            point = true;
-            continue;
-        }
-        if (!is_digit(w.at[k]) || ++count > 15)
-            return false;
-        digits = digits * 10 + (uint64_t)(w.at[k] - '0');
-        power = point ? power * 10 : 1;
-    }
-    if (count == 0 || !is_digit(w.at[w.length - 1]))
-        return false;
-    double size = (double)digits / power;
-    *out = negative ? -size : size;
-    return true;
-}
-
-static bool read_number(span w, double *out)
-{
-    return span_begins(w, "x") ? read_bits(behind(w, 1), out) : read_decimal(w, out);
-}
-
-static bool read_digits(span w, uint64_t *out)
-{
-    *out = 0;
-    for (size_t k = 0; k < w.length; k++) {
-        uint64_t digit = (uint64_t)(w.at[k] - '0');
-        if (!is_digit(w.at[k]) || *out > (UINT64_MAX - digit) / 10)
-            return false;
-        *out = *out * 10 + digit;
-    }
-    return w.length > 0;
-}
-
-static bool read_whole(span w, int64_t *out)
-{
-    bool negative = span_begins(w, "-");
-    uint64_t size;
-    if (!read_digits(behind(w, negative), &size) || size > (uint64_t)INT64_MAX + negative)
-        return false;
-    *out = !negative ? (int64_t)size : size == 0 ? 0 : -1 - (int64_t)(size - 1);
-    return true;
-}
-
-static bool read_count(span w, uint64_t *out)
-{
-    bool negative = span_begins(w, "-");
-    return read_digits(behind(w, negative), out) && !(negative && *out > 0);
-}
-
 static bool read_judgement(span w, judgement *out)
 {
     out->time = 0;
@@ -150,15 +31,6 @@ static bool read_judgement(span w, judgement *out)
         return true;
     size_t head = out->as == LOW ? 4 : 5;
     return (out->as == LOW || span_begins(w, "high:")) && read_number(behind(w, head), &out->time);
-}
-
-/* What is left of a line, and the number of the word taken last. */
-typedef struct { span rest; int number; } reader;
-
-static span next_word(reader *from)
-{
-    from->number++;
-    return take_word(&from->rest);
 }
 
 static bool read_way(reader *from, way *out)
@@ -170,16 +42,6 @@ static bool read_way(reader *from, way *out)
     vector *n = &out->normal;
     return span_is(w, "normal") && read_number(next_word(from), &n->x) && read_number(next_word(from), &n->y)
            && read_number(next_word(from), &n->z);
-}
-
-/* Takes the next word if it is this one. */
-static bool next_is(reader *from, const char *text)
-{
-    reader ahead = *from;
-    if (!span_is(next_word(&ahead), text))
-        return false;
-    *from = ahead;
-    return true;
 }
 
 static bool read_stopped_run(reader *from, bracket *out)
@@ -227,14 +89,11 @@ static bool read_routine(span w, enum routine *out)
 
 int read_request(const char *line, size_t length, request *out)
 {
-    reader from = { { line, length }, 0 };
-    if (span_begins(from.rest, "#"))
-        return NOTHING;
-    if (length > LINE_MAX)
-        return 0;
-    span name = next_word(&from);
-    if (name.length == 0)
-        return NOTHING;
+    reader from;
+    span name;
+    int begun = first_word(line, length, &from, &name);
+    if (begun != READ)
+        return begun;
     if (!read_routine(name, &out->routine))
         return from.number;
     word *w = out->words;
@@ -245,48 +104,6 @@ int read_request(const char *line, size_t length, request *out)
 }
 
 /* Answering. */
-
-typedef struct { char *at; } pen;
-
-static void say(pen *p, const char *text, ...)
-{
-    va_list given;
-    va_start(given, text);
-    p->at += vsprintf(p->at, text, given);
-    va_end(given);
-}
-
-/* Six places, cut towards zero; x is its significand over a power of two. */
-static void say_decimal(pen *p, double x)
-{
-    if (!(fabs(x) < 0x1p43)) {
-        say(p, "large");
-        return;
-    }
-    uint64_t bits = bits_of(x), significand = bits & 0xFFFFFFFFFFFFF, exponent = bits >> 52 & 0x7FF;
-    if (exponent == 0)
-        exponent = 1;
-    else
-        significand |= UINT64_C(1) << 52;
-    uint64_t halvings = 1075 - exponent;
-    uint64_t millionths = halvings > 100 ? 0 : (uint64_t)((unsigned __int128)significand * 1000000 >> halvings);
-    say(p, "%s%" PRIu64 ".%06" PRIu64, signbit(x) ? "-" : "", millionths / 1000000, millionths % 1000000);
-}
-
-/* The shape with a decimal for each D, then the bits of the same numbers. */
-static void say_numbers(pen *p, const char *shape, const double numbers[])
-{
-    int count = 0;
-    for (; *shape; shape++) {
-        if (*shape == 'D')
-            say_decimal(p, numbers[count++]);
-        else
-            say(p, "%c", *shape);
-    }
-    say(p, " bits");
-    for (int k = 0; k < count; k++)
-        say(p, " x%016" PRIX64, bits_of(numbers[k]));
-}
 
 static void say_number(pen *p, const char *shape, number a)
 {
@@ -312,7 +129,7 @@ static void say_judgement(pen *p, judgement j)
     static const char *const heads[] = { [UNDER] = "under", [LOW] = "low:", [HIGH] = "high:", [OVER] = "over" };
     say(p, "%s", heads[j.as]);
     if (carries_time(j))
-        say(p, "x%016" PRIX64, bits_of(j.time));
+        say_bits(p, j.time);
 }
 
 /* What can be put behind the request as it is. */

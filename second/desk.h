@@ -4,8 +4,7 @@
 
 #include "conic.h"
 #include "iterator.h"
-
-#include <stddef.h>
+#include "words.h"
 
 enum routine { ROOT, C, S, TRIAL, KEPLER, LAMBERT, THETA, APSIDES, WHEEL, SIGHT, ROUTINES };
 
@@ -16,7 +15,7 @@ typedef struct { const char *name, *words; } form;
 
 extern const form forms[ROUTINES];
 
-enum { WORDS_MAX = 13, LINE_MAX = 1000, ANSWER_MAX = 800 };
+enum { WORDS_MAX = 13, ANSWER_MAX = 800 };
 
 typedef union {
     double number;
@@ -29,9 +28,7 @@ typedef union {
 
 typedef struct { enum routine routine; word words[WORDS_MAX]; } request;
 
-/* READ, or NOTHING for a line without an answer, or the number of the first word that cannot be read. */
-enum { READ = -1, NOTHING = -2 };
-
+/* READ, NOTHING, or the number of the first word that cannot be read. */
 int read_request(const char *line, size_t length, request *out);
 
 /* Both without a newline. */

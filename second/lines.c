@@ -129,7 +129,7 @@ static void pad(line *l, size_t length)
         l->bytes[l->length++] = with;
 }
 
-static const char *bad_word(void)
+const char *bad_word(void)
 {
     static const char *const bad[] = {
         "x", "x123", "x3FF000000000000", "x3FF00000000000000", "x3FF000000000000G", "X3FF0000000000000",

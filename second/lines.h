@@ -6,6 +6,9 @@
 
 typedef struct { char bytes[2 * LINE_MAX]; size_t length; } line;
 
+/* A word that some place of some line cannot take. */
+const char *bad_word(void);
+
 /* Numbers as bits, or as decimals where they can be. */
 line spelled_line(const request *q, bool decimal);
 

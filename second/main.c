@@ -1,30 +1,17 @@
 /* The second program: document 01 once more, in C, as a witness for the first. See README.md. */
 #include "desk.h"
+#include "files.h"
 #include "programs.h"
-#include "session.h"
 
 #include <inttypes.h>
 #include <stdio.h>
 #include <stdlib.h>
 #include <string.h>
 
-/* Keeps as much of a line as counts; answers its whole length, or -1 where no line is left. */
-static long take_line(char line[LINE_MAX])
-{
-    long length = 0;
-    int c;
-    while ((c = getchar()) != EOF && c != '\n') {
-        if (length < LINE_MAX)
-            line[length] = (char)c;
-        length++;
-    }
-    return c == EOF && length == 0 ? -1 : length;
-}
-
 static int desk(void)
 {
     char line[LINE_MAX], answer[ANSWER_MAX];
-    for (long length; (length = take_line(line)) >= 0;) {
+    for (long length; (length = take_line(line, sizeof line)) >= 0;) {
         request asked;
         int unread = read_request(line, (size_t)length, &asked);
         if (unread == NOTHING)
@@ -33,21 +20,6 @@ static int desk(void)
         puts(answer);
     }
     return 0;
-}
-
-static int list(const char *name)
-{
-    static uint8_t session[SESSION_MAX + 1];
-    static char text[LISTING_MAX];
-    FILE *file = name ? fopen(name, "rb") : stdin;
-    size_t size = file ? fread(session, 1, sizeof session, file) : 0;
-    if (!file || ferror(file)) {
-        perror(name ? name : "standard input");
-        return 2;
-    }
-    listed made = listing(session, size, text);
-    fwrite(text, 1, made.length, stdout);
-    return made.refused;
 }
 
 static int run_bench(const char *name, uint64_t count)
@@ -65,8 +37,12 @@ static int help(void)
 {
     fputs("second desk                      a line in, a line out\n"
           "second list [FILE]               the listing of a session\n"
+          "second show [FILE]               a session as text\n"
+          "second write [--replace] FILE    a session of the text on standard input\n"
+          "second watch                     the listing of a session as it comes on standard input\n"
           "second requests SEED COUNT       lines for the desk\n"
           "second sessions SEED COUNT DIR   sessions, whole and damaged\n"
+          "second texts SEED COUNT DIR      sessions as text, with faults\n"
           "second bench NAME [COUNT]        root, advance, lambert, theta or list: a checksum\n",
           stderr);
     return 2;
@@ -81,10 +57,20 @@ int main(int words, char **word)
         return desk();
     if (strcmp(what, "list") == 0 && words <= 3)
         return list(word[2]);
+    if (strcmp(what, "show") == 0 && words <= 3)
+        return show(word[2]);
+    if (strcmp(what, "write") == 0 && words == 3)
+        return write_session(word[2], false);
+    if (strcmp(what, "write") == 0 && words == 4 && strcmp(word[2], "--replace") == 0)
+        return write_session(word[3], true);
+    if (strcmp(what, "watch") == 0 && words == 2)
+        return watch();
     if (strcmp(what, "requests") == 0 && words == 4)
         return make_requests(a, b), 0;
     if (strcmp(what, "sessions") == 0 && words == 5)
         return make_sessions(a, b, word[4]);
+    if (strcmp(what, "texts") == 0 && words == 5)
+        return make_texts(a, b, word[4]);
     if (strcmp(what, "bench") == 0 && (words == 3 || words == 4))
         return run_bench(word[2], b);
     return help();

@@ -1,13 +1,21 @@
-/* The subcommands that make requests and sessions, and the bench. */
+/* The subcommands. */
 #ifndef PROGRAMS_H
 #define PROGRAMS_H
 
+#include <stdbool.h>
 #include <stdint.h>
+
+/* Each answers the exit status. */
+int list(const char *name);
+int show(const char *name);
+int write_session(const char *name, bool replace);
+int watch(void);
 
 void make_requests(uint64_t seed, uint64_t count);
 int make_sessions(uint64_t seed, uint64_t count, const char *folder);
+int make_texts(uint64_t seed, uint64_t count, const char *folder);
 
 /* The checksum by NAME; a count of 0 is the bench's own. False if there is no such bench. */
-_Bool bench(const char *name, uint64_t count, uint64_t *checksum);
+bool bench(const char *name, uint64_t count, uint64_t *checksum);
 
 #endif

@@ -6,7 +6,7 @@ enum { HEADER = 14, OFFSET_MAX = 840 };
 
 static const int64_t time_max = INT64_C(1) << 53;
 
-static const struct { const char *name; size_t length; int numbers, top_byte; } kinds[] = {
+static const struct { const char *name; size_t length; int numbers; uint64_t top_byte; } kinds[] = {
     [STATE] = { "state", 62, 6, 1 },
     [BURN] = { "burn", 38, 3, 0 },
     [MARK] = { "mark", 30, 2, 0 },
@@ -42,7 +42,7 @@ static void put_little_endian(uint8_t *at, int bytes, uint64_t n)
         at[k] = (uint8_t)(n >> 8 * k);
 }
 
-static bool offset_allowed(int offset)
+static bool offset_allowed(int64_t offset)
 {
     return -OFFSET_MAX <= offset && offset <= OFFSET_MAX;
 }
@@ -115,6 +115,65 @@ reading read_record(const uint8_t *session, size_t size, place from)
     if (from.byte == size)
         return (reading){ .end = true, .place = from };
     return read_front(session + from.byte, size - from.byte, from);
+}
+
+/* In parts. */
+
+static reading ended(stream *s, reading answer)
+{
+    s->over = true;
+    s->last = answer;
+    return answer;
+}
+
+/* The bytes of this and of the parts ahead of it, up to 2^63 - 1. */
+static bool within_count(const stream *s, size_t left)
+{
+    return left <= (uint64_t)INT64_MAX - (s->at.byte + s->kept);
+}
+
+reading take_part(stream *s, const uint8_t *part, size_t size, size_t *taken)
+{
+    if (s->over)
+        return s->last;
+    if (!within_count(s, size - *taken))
+        return ended(s, refused(15, s->at));
+    while (*taken < size) {
+        s->unfinished[s->kept++] = part[(*taken)++];
+        reading read = read_front(s->unfinished, s->kept, s->at);
+        if (read.refused == 11)
+            continue;
+        if (read.refused)
+            return ended(s, read);
+        s->at = read.place;
+        s->kept = 0;
+        return read;
+    }
+    return (reading){ .used_up = true, .place = s->at };
+}
+
+reading end_parts(stream *s)
+{
+    if (s->over)
+        return s->last;
+    return ended(s, s->kept ? refused(11, s->at) : (reading){ .end = true, .place = s->at });
+}
+
+/* Writing. */
+
+static bool allowed(const record *r, bool first)
+{
+    return r->kind == OFFSET ? first && offset_allowed(r->offset) : fields_allowed(r);
+}
+
+writing append_record(uint8_t *buffer, size_t size, size_t used, const record *r)
+{
+    size_t end = size < SESSION_MAX ? size : SESSION_MAX;
+    if (!allowed(r, used == 0))
+        return (writing){ 14, used };
+    if (used > end || end - used < length_of(r->kind))
+        return (writing){ 15, used };
+    return (writing){ 0, used + write_record(buffer + used, r) };
 }
 
 size_t write_record(uint8_t out[RECORD_MAX], const record *r)

@@ -2,7 +2,7 @@
 #include "programs.h"
 
 #include "dice.h"
-#include "session.h"
+#include "makers.h"
 
 #include <stdio.h>
 #include <string.h>
@@ -32,19 +32,30 @@ static int64_t some_time(int offset)
     }
 }
 
-static void add(session *s, int kind)
+record some_record(int kind, int offset)
 {
-    record r = { .kind = kind, .offset = s->offset, .vehicle = (int)below(2) };
-    r.time = some_time(s->offset);
-    r.byte = kind == STATE ? (int)below(2) : 0;
+    record r = { .kind = kind, .offset = offset, .vehicle = below(2) };
+    r.time = some_time(offset);
+    r.byte = kind == STATE ? below(2) : 0;
     for (int k = 0; k < numbers_of(kind); k++)
         r.numbers[k] = uniform(-0x1p23, 0x1p23);
+    return r;
+}
+
+int some_offset(void)
+{
+    return one_in(4) ? (int)below(3) * 840 - 840 : (int)below(1681) - 840;
+}
+
+static void add(session *s, int kind)
+{
+    record r = some_record(kind, s->offset);
     s->size += write_record(s->bytes + s->size, &r);
 }
 
 static void add_offset(session *s)
 {
-    s->offset = one_in(4) ? (int)below(3) * 840 - 840 : (int)below(1681) - 840;
+    s->offset = some_offset();
     add(s, OFFSET);
 }
 

@@ -1,6 +1,7 @@
 #!/usr/bin/env bash
-# compare.sh stored | requests | stops | sessions: the linked programs against the second program (second/), on the stored
-# requests, on fresh ones, on solves stopped by a limit and gone on with, and on fresh sessions. The seed of the fresh ones is printed; CABIN_SEED=N makes the same again.
+# compare.sh stored | requests | stops | sessions | texts | parts: the linked programs against the second program (second/), on
+# the stored requests, on fresh ones, on solves stopped by a limit and gone on with, on fresh sessions, on sessions as text,
+# and on sessions that come in parts. The seed of the fresh ones is printed; CABIN_SEED=N makes the same again.
 home=$(cd "$(dirname "${BASH_SOURCE[0]}")/.." && pwd -P)
 . "$home/tools/front.sh"
 cd "$home"
@@ -71,6 +72,21 @@ sessions() {
     done
     echo "$sessions sessions, $wrong differences"
     [ "$wrong" -eq 0 ]
+}
+
+# Sessions shown, and texts written.
+texts() {
+    echo "60 fresh sessions shown and 60 texts written, seed $seed"
+    ready show
+    ready write
+    python3 tools/records.py --texts ./cabin "$second" 60 "$seed"
+}
+
+# Sessions in parts.
+parts() {
+    echo "60 fresh sessions in parts, seed $seed"
+    ready watch
+    python3 tools/records.py --watch ./cabin "$second" 60 "$seed"
 }
 
 need make make

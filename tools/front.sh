@@ -143,8 +143,18 @@ run_lines() { # NAME [WORD..]
             last=$line
         done
         [ -z "$line" ] || { say "the last line was cut: $line"; exit 2; }
-        case $last in 'refused '*) exit 1 ;; esac
+        case $last in 'refused '* | '# refused '*) exit 1 ;; esac
     }
+}
+
+# Runs a program that is ready with its output as ours, each line at once, and keeps no more of it than the last line,
+# however long it is. Answers 1 where that is a refusal.
+run_stream() { # NAME [WORD..]
+    local last to
+    exec {to}>&1
+    last=$(run "$@" | tee --output-error=exit /dev/fd/3 3>&1 >&"$to" | tail -n 1) || return 2
+    exec {to}>&-
+    case $last in 'refused '*) return 1 ;; esac
 }
 
 # Does what COMMAND does, with its output as ours, and answers its status; what it says on standard error is in `said`.
@@ -164,4 +174,43 @@ heard() { # COMMAND..
     [ -z "$said" ] || fail "${said##*printf: }"
     [ "$status" -le 1 ] || fail "it ended with status $status"
     return "$status"
+}
+
+# ---- a file that appears whole or not at all
+
+# Sees to it that a file may be made, or replaced.
+need_place() { # FILE REPLACE
+    local folder
+    [ -n "$1" ] || fail "the file's name is empty: give the path of the session to be written"
+    folder=$(dirname -- "$1")
+    [ -d "$folder" ] || fail "there is no folder $folder: make it, or give another path"
+    [ ! -e "$1" ] && [ ! -L "$1" ] && return
+    [ "$2" = yes ] || fail "$1 exists and stays as it is: give another path, or say --replace before it"
+    [ -f "$1" ] || fail "$1 is no plain file: give another path"
+}
+
+# A new file beside FILE, which goes away at the end: `made`.
+beside() { # FILE
+    local folder
+    folder=$(dirname -- "$1")
+    made=$(mktemp -- "$folder/.cabin-XXXXXXXX" 2>/dev/null) || fail "nothing can be written in the folder $folder: give a path where you may write"
+    clean+=("$made")
+}
+
+# Gives `made` the name FILE, with its bytes on the disk first. A link fails where FILE exists, so that what another put
+# there meanwhile stays; where the disk has no links, mv looks before it moves.
+put_in_place() { # FILE REPLACE
+    sync -- "$made" || fail "what was written did not reach the disk: $1 is as it was"
+    if [ "$2" = yes ] && [ -e "$1" ]; then
+        chmod --reference="$1" -- "$made" || fail "$1 cannot be replaced: it is as it was"
+    else
+        chmod =rw -- "$made"
+    fi
+    if [ "$2" = yes ]; then
+        mv -fT -- "$made" "$1" 2>/dev/null || fail "$1 cannot be replaced: it is as it was"
+    elif ! ln -T -- "$made" "$1" 2>/dev/null; then
+        [ ! -e "$1" ] && mv -nT -- "$made" "$1" 2>/dev/null && [ ! -e "$made" ] ||
+            fail "$1 cannot be made: it exists by now, or it may not be written"
+    fi
+    sync -- "$(dirname -- "$1")" 2>/dev/null || true
 }

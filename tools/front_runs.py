@@ -6,16 +6,20 @@ Where something has to be built, the front is copied to a room of its own with a
 handing out a program that is proved already."""
 import os
 import pathlib
+import pty
 import re
 import resource
+import select
 import shutil
+import struct
 import subprocess
 import sys
 import tempfile
 import time
+import tty
 
 sys.path.insert(0, str(pathlib.Path(__file__).parent))
-from make_sample import listing, sample
+from make_sample import listing, night, sample, text
 
 ROOT = pathlib.Path(__file__).resolve().parent.parent
 SAMPLE = ROOT / "samples" / "session.bin"
@@ -145,6 +149,7 @@ def _():
         folder = os.open(room, os.O_RDONLY)
         hold(front("list", stdin=folder), 2, b"", "standard input")
         hold(front("desk", stdin=folder), 2, b"", "standard input")
+        hold(front("watch", stdin=folder), 2, None, "standard input")
         os.close(folder)
     with Room() as room:
         secret = room.write("secret", "")
@@ -176,7 +181,7 @@ def _():
 def _():
     status, text, _said = front("help")
     usages = [line[2:].split("  ")[0] for line in text.decode().split("\n") if line.startswith("  ")]
-    assert status == 0 and len(usages) >= 7, text
+    assert status == 0 and len(usages) >= 9, text
     for usage in usages:
         name, *words = usage.split()
         if ".." not in usage:
@@ -186,20 +191,279 @@ def _():
     hold(front("lists"), 2, b"", "no command 'lists'")
 
 
+@case("show: 0 for a whole session, 1 for a refused one, 2 for one that cannot be read")
+def _():
+    hold(front("show", SAMPLE), 0, text(sample()))
+    hold(front("show", given=night()), 0, text(night()))
+    hold(front("show", given=REFUSED), 1, text(REFUSED), "refused")
+    with tempfile.TemporaryDirectory() as room:
+        hold(front("show", pathlib.Path(room) / "none"), 2, b"", "no file")
+        hold(front("show", room), 2, b"", "cannot be read")
+    hold(front("show", closed=[0]), 2, b"", "standard input is closed")
+    with open("/dev/full", "wb") as full:
+        hold(front("show", SAMPLE, stdout=full), 2, None, "No space left")
+
+
+# ---- a file that appears whole or not at all
+
+class Folder:
+    """A folder with what stands there, of which nothing else may be left."""
+
+    def __enter__(self):
+        self.top = tempfile.TemporaryDirectory()
+        self.path = pathlib.Path(self.top.name)
+        self.file = self.path / "file"
+        return self
+
+    def __exit__(self, *_):
+        self.path.chmod(0o755)
+        self.top.cleanup()
+
+    def holds(self, **wanted):
+        got = {path.name: path.read_bytes() for path in self.path.iterdir()}
+        assert got == wanted, f"the folder holds {sorted(got)}, not {sorted(wanted)} with their bytes"
+
+
+TEXT = text(sample())
+
+
+@case("write: FILE is made whole, and may be read by whom the umask lets")
+def _():
+    with Folder() as room:
+        hold(front("write", room.file, given=TEXT), 0, b"")
+        room.holds(file=sample())
+        umask = os.umask(0)
+        os.umask(umask)
+        assert room.file.stat().st_mode & 0o777 == 0o666 & ~umask, oct(room.file.stat().st_mode)
+        ran = subprocess.run([ROOT / "cabin", "write", "-a b"], input=TEXT, cwd=room.path, capture_output=True)
+        assert (ran.returncode, ran.stderr) == (0, b""), ran
+        room.holds(**{"file": sample(), "-a b": sample()})
+
+
+@case("write: a FILE that exists stays, unless it is to be replaced")
+def _():
+    with Folder() as room:
+        room.file.write_bytes(b"old")
+        room.file.chmod(0o640)
+        hold(front("write", room.file, given=TEXT), 2, b"", "exists")
+        room.holds(file=b"old")
+        hold(front("write", "--replace", room.file, given=b"mark 0 2 0 0\n"), 1, b"", "^line 1: refused 14\n")
+        room.holds(file=b"old")
+        hold(front("write", "--replace", room.file, given=TEXT), 0, b"")
+        room.holds(file=sample())
+        assert room.file.stat().st_mode & 0o777 == 0o640
+        (room.path / "link").symlink_to("nowhere")
+        hold(front("write", room.path / "link", given=TEXT), 2, b"", "exists")
+        os.mkfifo(room.path / "pipe")
+        hold(front("write", "--replace", room.path / "pipe", given=TEXT), 2, b"", "no plain file")
+        hold(front("write", "--replace", room.path, given=TEXT), 2, b"", "no plain file")
+        hold(front("write", "--renew", room.file, given=TEXT), 2, b"", "usage")
+
+
+@case("write: a folder that is not there or cannot be written, an empty name, closed input: 2")
+def _():
+    with Folder() as room:
+        hold(front("write", room.path / "none" / "file", given=TEXT), 2, b"", "no folder")
+        hold(front("write", "", given=TEXT), 2, b"", "empty")
+        hold(front("write", room.file, closed=[0]), 2, b"", "standard input is closed")
+        room.path.chmod(0o555)
+        hold(front("write", room.file, given=TEXT, nobody=True), 2, b"", "nothing can be written")
+        room.holds()
+        folder = os.open(room.path, os.O_RDONLY)
+        room.path.chmod(0o755)
+        hold(front("write", room.file, stdin=folder), 2, b"", "standard input")
+        os.close(folder)
+        room.holds()
+
+
+@case("write: a disk that is full: 2, and what stood there stands")
+def _():
+    for limit in (0, 1, 100, len(sample()) - 1):
+        with Folder() as room:
+            hold(front("write", room.file, given=TEXT, limit=limit), 2, b"", "File too large")
+            room.holds()
+            room.file.write_bytes(b"old")
+            hold(front("write", "--replace", room.file, given=TEXT, limit=limit), 2, b"", "File too large")
+            room.holds(file=b"old")
+
+
+@case("write: stopped or killed at any point, FILE is as it was or whole")
+def _():
+    for signal in ("TERM", "INT", "KILL"):
+        for wait in (0, 0.05, 0.2, 0.5):
+            with Folder() as room:
+                room.file.write_bytes(b"old")
+                use = subprocess.Popen([ROOT / "cabin", "write", "--replace", room.file], stdin=subprocess.PIPE, stderr=subprocess.DEVNULL, start_new_session=True)
+                use.stdin.write(TEXT)
+                use.stdin.flush()
+                time.sleep(wait)
+                subprocess.run(["kill", f"-{signal}", "--", f"-{use.pid}"], check=True)
+                use.stdin.close()
+                assert use.wait(timeout=60) != 0, "it was not stopped"
+                assert room.file.read_bytes() == b"old", (signal, wait)
+
+
+@case("write: killed while it takes its place, FILE is as it was or whole")
+def _():
+    for k in range(12):
+        with Folder() as room:
+            use = subprocess.Popen([ROOT / "cabin", "write", room.file], stdin=subprocess.PIPE, stderr=subprocess.DEVNULL, start_new_session=True)
+            time.sleep(0.3)
+            use.stdin.write(TEXT)
+            use.stdin.close()
+            time.sleep(0.01 * k)
+            subprocess.run(["kill", "-KILL", "--", f"-{use.pid}"], stderr=subprocess.DEVNULL)
+            use.wait(timeout=60)
+            assert not room.file.exists() or room.file.read_bytes() == sample(), k
+
+
+@case("write: two at once to one FILE: one makes it, the other is told")
+def _():
+    with Folder() as room:
+        both = [subprocess.Popen([ROOT / "cabin", "write", room.file], stdin=subprocess.PIPE, stderr=subprocess.PIPE) for _ in range(2)]
+        time.sleep(1)
+        said = [one.communicate(given, timeout=60)[1] for one, given in zip(both, (TEXT, text(night())))]
+        assert sorted(one.returncode for one in both) == [0, 2], said
+        room.holds(file=[sample(), night()][both[0].returncode != 0])
+# ---- settings
+
+EARTH = (0, 39860120000.0, 6378166.0, 2.0 ** -20, 2.0 ** -10)
+MOON = (1, 490277800.0, 1738090.0, 2.0 ** -20, 2.0 ** -10)
+
+
+def bits(number):
+    return "x" + struct.pack(">d", number).hex().upper()
+
+
+def version(number, body, *constants):
+    """The bytes of a version, and its line's end."""
+    return struct.pack("<HHIB3x4d", 44, 5, number, body, *constants), (" bits " + " ".join(map(bits, constants)) + "\n").encode()
+
+
+def store(file, body, *constants, **more):
+    return front("settings", file, "store", str(body), *map(bits, constants), **more)
+
+
+@case("settings: stored, listed, shown, gone back to; a file that is not there has no version")
+def _():
+    with tempfile.TemporaryDirectory() as room:
+        file = pathlib.Path(room) / "settings"
+        hold(front("settings", file, "list"), 0, b"")
+        hold(front("settings", file, "show", "1"), 1, b"refused 23\n", "as it was")
+        hold(front("settings", file, "back", "1"), 1, b"refused 23\n", "as it was")
+        assert not os.listdir(room)
+        lines = []
+        for number, (one, got) in enumerate([(EARTH, lambda: store(file, *EARTH)), (MOON, lambda: store(file, *MOON)), (EARTH, lambda: front("settings", file, "back", "1"))], 1):
+            status, line, said = got()
+            assert (status, said) == (0, "") and line.startswith(b"version %d body %d mu " % (number, one[0])) and line.endswith(version(number, *one)[1]), line
+            lines.append(line)
+        assert file.read_bytes() == version(1, *EARTH)[0] + version(2, *MOON)[0] + version(3, *EARTH)[0]
+        hold(front("settings", file, "list"), 0, b"".join(lines))
+        for number, line in enumerate(lines, 1):
+            hold(front("settings", file, "show", str(number)), 0, line)
+        assert os.listdir(room) == ["settings"]
+
+
+@case("settings: what is refused gives 1 and its number, in the order of the table, and leaves every byte")
+def _():
+    with tempfile.TemporaryDirectory() as room:
+        file = pathlib.Path(room) / "settings"
+        whole = version(1, *EARTH)[0] + version(2, *MOON)[0]
+        full = b"".join(version(k, *EARTH)[0] for k in range(1, 65))
+        wrong = (2, float("nan"), -1.0, 2.0, 1.0)
+        cases = [(whole, ["show", "0"], 23), (whole, ["show", "3"], 23), (whole, ["back", "18446744073709551615"], 23),
+                 (full, ["back", "65"], 23), (full, ["back", "64"], 24), (full, ["store", "0", *map(bits, EARTH[1:])], 24),
+                 (full, ["store", "2", *map(bits, EARTH[1:])], 14)]
+        damaged = [whole[:-1], whole + b"\0", whole[44:], whole[:44] + whole[:44], full + version(65, *MOON)[0], full + full]
+        damaged += [whole[:k] + bytes([whole[k] ^ 255]) + whole[k + 1:] for k in (44, 46, 48, 52, 53, 55, 63, 71, 79, 87)]
+        for bytes_of in damaged:
+            cases += [(bytes_of, words, 30) for words in (["list"], ["show", "0"], ["back", "99"], ["store", "2", *map(bits, wrong[1:])])]
+        for number, change in ((1, wrong), (2, (2, 1.0, -1.0, 2.0, 1.0)), (22, (2, MOON[1], 0.0, 0.5, 0.5)), (22, (2, MOON[1], 1.0, 0.5, 0.25)),
+                               (22, (2, MOON[1], 2.0 ** 29, 0.0, 1.0)), (22, (2, MOON[1], 1.0, 0.5, 1.5)), (14, (2, MOON[1], 1.0, 0.5, 0.5))):
+            cases.append((whole, ["store", str(change[0]), *map(bits, change[1:])], number))
+        for bytes_of, words, number in cases:
+            file.write_bytes(bytes_of)
+            hold(front("settings", file, *words), 1, b"refused %d\n" % number, "docs/pages/settings.md")
+            assert file.read_bytes() == bytes_of and os.listdir(room) == ["settings"], words
+
+
+@case("settings: words that cannot be read give 2, say which, and leave every byte")
+def _():
+    with tempfile.TemporaryDirectory() as room:
+        file = pathlib.Path(room) / "settings"
+        file.write_bytes(version(1, *EARTH)[0])
+        for words, says in ((["lists"], "'lists', word 1"), (["show"], "word 2 .* missing"), (["show", "-1"], "'-1', word 2"), (["show", "1", "2"], "'2', word 3"),
+                            (["back", "18446744073709551616"], "word 2"), (["store", "0", "1", "2", "3"], "word 6 .* missing"), (["store", "0", "1", "inf", "3", "4"], "'inf', word 4"), ([" "], "word 1")):
+            hold(front("settings", file, *words), 2, b"", says)
+        assert file.read_bytes() == version(1, *EARTH)[0] and os.listdir(room) == ["settings"]
+
+
+@case("settings: eight stores at once keep eight versions, and a list meanwhile is whole")
+def _():
+    with tempfile.TemporaryDirectory() as room:
+        file = pathlib.Path(room) / "settings"
+        words = [ROOT / "cabin", "settings", file, "store", "0", *map(bits, EARTH[1:])]
+        uses = [subprocess.Popen(words, stdout=subprocess.PIPE, stderr=subprocess.DEVNULL) for _ in range(8)]
+        hold(front("settings", file, "list"), 0)
+        numbers = sorted(int(use.communicate(timeout=60)[0].split()[1]) for use in uses)
+        assert numbers == list(range(1, 9)), numbers
+        assert file.read_bytes() == b"".join(version(k, *EARTH)[0] for k in range(1, 9)) and os.listdir(room) == ["settings"]
+
+
+@case("settings: a store that is killed at any point has stored its version or has changed nothing")
+def _():
+    with tempfile.TemporaryDirectory() as room:
+        file = pathlib.Path(room) / "settings"
+        hold(store(file, *EARTH), 0)
+        words = [ROOT / "cabin", "settings", file, "store", "0", *map(bits, EARTH[1:])]
+        for k in range(24):
+            before = file.read_bytes()
+            use = subprocess.Popen(words, stdout=subprocess.DEVNULL, stderr=subprocess.DEVNULL, start_new_session=True)
+            time.sleep(0.015 * k)
+            os.killpg(use.pid, 9)
+            use.wait()
+            after = file.read_bytes()
+            assert after in (before, before + version(len(before) // 44 + 1, *EARTH)[0]), (k, len(before), len(after))
+        hold(store(file, *EARTH), 0)
+
+
+@case("settings that cannot be read or replaced: 2, and they stay; a link stays a link, and the mode is kept")
+def _():
+    with tempfile.TemporaryDirectory() as room:
+        room = pathlib.Path(room)
+        file = room / "settings"
+        hold(front("settings", room, "list"), 2, b"", "cannot be read")
+        hold(front("settings", "", "list"), 2, b"", "name is empty")
+        hold(store(room / "none" / "settings", *EARTH), 2, b"", "no folder")
+        hold(front("settings", room / "none" / "settings", "list"), 0, b"")
+        hold(store(file, *EARTH, limit=20), 2, b"", "File too large")
+        assert not os.listdir(room)
+        hold(store(file, *EARTH), 0)
+        hold(store(file, *EARTH, limit=50), 2, b"", "File too large")
+        with open("/dev/full", "wb") as full:
+            hold(front("settings", file, "list", stdout=full), 2, None, "No space left")
+        file.chmod(0o640)
+        (room / "link").symlink_to("settings")
+        hold(store(room / "link", *MOON), 0)
+        assert (room / "link").is_symlink() and file.stat().st_mode & 0o777 == 0o640
+        assert file.read_bytes() == version(1, *EARTH)[0] + version(2, *MOON)[0] and sorted(os.listdir(room)) == ["link", "settings"]
+
+
 # ---- output that does not get through
 
-@case("a full device: 2 for list, desk and help")
+@case("a full device: 2 for list, watch, desk and help")
 def _():
     with open("/dev/full", "wb") as full:
         hold(front("list", SAMPLE, stdout=full), 2, None, "No space left")
         hold(front("list", stdout=full, given=REFUSED), 2, None, "No space left")
+        hold(front("watch", stdout=full, given=REFUSED), 2, None, "No space left")
         hold(front("desk", stdout=full, given=b"root 2\n"), 2, None, "No space left")
         hold(front("help", stdout=full), 2, None, "No space left")
 
 
-@case("closed output: 2 for list, desk and help")
+@case("closed output: 2 for list, watch, desk and help")
 def _():
-    for words in (["list", SAMPLE], ["desk"], ["help"]):
+    for words in (["list", SAMPLE], ["watch"], ["desk"], ["help"]):
         hold(front(*words, given=b"root 2\n", closed=[1]), 2, b"", "standard output is closed")
 
 
@@ -213,13 +477,14 @@ def _():
 @case("closed input: 2 where it is read, and no matter where it is not")
 def _():
     hold(front("list", closed=[0]), 2, b"", "standard input is closed")
+    hold(front("watch", closed=[0]), 2, b"", "standard input is closed")
     hold(front("desk", closed=[0]), 2, b"", "standard input is closed")
     hold(front("list", SAMPLE, closed=[0]), 0, WHOLE)
 
 
-@case("a reader that has gone: 2 for list and desk")
+@case("a reader that has gone: 2 for list, watch and desk")
 def _():
-    for words in (["list", SAMPLE], ["desk"]):
+    for words in (["list", SAMPLE], ["watch"], ["desk"]):
         gone, end = os.pipe()
         os.close(gone)
         hold(front(*words, stdout=end, given=b"root 2\n"), 2, None, "Broken pipe")
@@ -241,6 +506,98 @@ def _():
         with open(file.name, "ab") as more:
             hold(front("list", SAMPLE, stdout=more), 0)
         assert pathlib.Path(file.name).read_bytes() == b"ahead\n" + WHOLE
+
+
+# ---- a session as it comes
+
+class Coming:
+    """./cabin watch on an input that stays open."""
+
+    def __init__(self):
+        self.front = subprocess.Popen([ROOT / "cabin", "watch"], stdin=subprocess.PIPE, stdout=subprocess.PIPE, stderr=subprocess.PIPE)
+
+    def __enter__(self):
+        return self
+
+    def __exit__(self, *_):
+        for stream in (self.front.stdin, self.front.stdout, self.front.stderr):
+            stream.close()
+        self.front.wait(60)
+
+    def send(self, some):
+        os.write(self.front.stdin.fileno(), some)
+
+    def line(self):
+        """The next line; a time-out where none comes."""
+        if not select.select([self.front.stdout], [], [], 30)[0]:
+            raise AssertionError("a line is due and does not come")
+        return os.read(self.front.stdout.fileno(), 4096)
+
+
+@case("a session as it comes: 0, and 1 with the lines ahead where a record is refused or cut")
+def _():
+    hold(front("watch", given=sample()), 0, WHOLE)
+    hold(front("watch"), 0, listing(b""))
+    hold(front("watch", given=REFUSED), 1, listing(REFUSED), "counted from the start of the session")
+    for cut in (1, 3, 4, 61):
+        hold(front("watch", given=sample()[:452 + cut - 62]), 1, listing(sample()[:452 + cut - 62]), "refused")
+
+
+@case("an input that stays open: each line comes before the next byte is sent, and a refusal ends it")
+def _():
+    with Coming() as coming:
+        assert coming.line() == listing(b"")
+        at, told = 0, listing(b"")
+        for length in (62, 38, 62):
+            for _byte in range(length):
+                coming.send(sample()[at:at + 1])
+                at += 1
+            told += coming.line()
+            assert told == listing(sample()[:at]), (at, told)
+        coming.send(b"\x26\x00\x09\x00")
+        assert coming.line() == b"refused 13 at 162\n"
+        assert coming.front.wait(30) == 1, coming.front.stderr.read()
+
+
+@case("a serial line is listed as it comes; where it hangs up, the input ends or cannot be read, as the system has it")
+def _():
+    end, line = pty.openpty()
+    tty.setraw(line)
+    ran = subprocess.Popen([ROOT / "cabin", "watch"], stdin=line, stdout=subprocess.PIPE, stderr=subprocess.PIPE)
+    os.close(line)
+    assert ran.stdout.readline() == listing(b"")
+    os.write(end, night()[:8 + 62])
+    assert ran.stdout.readline() == b"4 8580000 0 state\n"
+    os.write(end, night()[8 + 62:8 + 62 + 62])
+    assert ran.stdout.readline() == b"4 8580000 1 state\n"
+    os.close(end)
+    wrote, said = ran.communicate(timeout=60)
+    assert wrote == b"" and (ran.returncode, said) in ((0, b""), (2, b"cabin: standard input: Input/output error\n")), (ran.returncode, wrote, said)
+
+
+@case("a session as it comes is added to a file, which stays")
+def _():
+    with tempfile.NamedTemporaryFile() as file:
+        file.write(b"ahead\n")
+        file.flush()
+        with open(file.name, "ab") as more:
+            hold(front("watch", given=sample(), stdout=more), 0)
+        assert pathlib.Path(file.name).read_bytes() == b"ahead\n" + WHOLE
+
+
+@case("a long session as it comes takes no more memory than a short one")
+def _():
+    def peak(times):
+        ran = subprocess.Popen(["bash", "-c", f'for k in $(seq {times}); do cat "$1"; done | "$0" watch', ROOT / "cabin", LONG], stdout=subprocess.PIPE)
+        size = len(ran.stdout.read())
+        _pid, status, used = os.wait4(ran.pid, 0)
+        assert status == 0 and size == len(listing(b"")) + times * (len(listing(LONG.read_bytes())) - len(listing(b""))), (status, size)
+        return used.ru_maxrss
+    with tempfile.NamedTemporaryFile() as file:
+        LONG = pathlib.Path(file.name)
+        LONG.write_bytes(sample() * 140)
+        short, long = peak(1), peak(100)
+        assert long < short + 1024, (short, long)
 
 
 # ---- folders that cannot be used

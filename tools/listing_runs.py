@@ -10,11 +10,15 @@ sys.path.insert(0, str(pathlib.Path(__file__).parent))
 from make_sample import BURN, MARK, listing, night, offset, record, sample
 
 CABIN = pathlib.Path(__file__).resolve().parent.parent / 'cabin'
-LISTING = subprocess.run([CABIN, 'ready', 'listing'], stdout=subprocess.PIPE, text=True, check=True).stdout.split('\n')[:-1]
+
+
+def ready(program):
+    """What starts a program of this checkout."""
+    return subprocess.run([CABIN, 'ready', program], stdout=subprocess.PIPE, text=True, check=True).stdout.split('\n')[:-1]
 
 
 def run(*words, given=b''):
-    ran = subprocess.run([*LISTING, *words], input=given, capture_output=True)
+    ran = subprocess.run([*words], input=given, capture_output=True)
     return ran.stdout, ran.stderr
 
 
@@ -49,18 +53,19 @@ def sessions():
 
 def main():
     runs = faults = 0
+    start = ready('listing')
     with tempfile.TemporaryDirectory() as room:
         path = pathlib.Path(room) / 'session'
         for name, session in sessions():
             path.write_bytes(session)
-            for way, got in (('file', run(path)), ('standard input', run(given=session))):
+            for way, got in (('file', run(*start, path)), ('standard input', run(*start, given=session))):
                 runs += 1
                 if got != (listing(session), b''):
                     faults += 1
                     print(f'{name}, from {way}: wrote {got[0]!r} and said {got[1]!r}, not {listing(session)!r}')
         for name, words in (('no such file', [path / 'none']), ('a folder', [room]), ('two files', [path, path])):
             runs += 1
-            wrote, said = run(*words)
+            wrote, said = run(*start, *words)
             if wrote or not said:
                 faults += 1
                 print(f'{name}: wrote {wrote!r} and said {said!r}; nothing must be written and something said')
@@ -68,4 +73,5 @@ def main():
     return 1 if faults else 0
 
 
-sys.exit(main())
+if __name__ == '__main__':
+    sys.exit(main())

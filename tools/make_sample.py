@@ -1,12 +1,14 @@
 #!/usr/bin/env python3
-"""make_sample: writes the sample sessions, and what the listing program is run on and must write.
+"""make_sample: writes the sample sessions, and what the programs listing, show and write are run on and must write.
 
   tools/make_sample.py           write the files
   tools/make_sample.py --check   say which differ from what would be written, and exit 1 if one does
 
-The listings come from a reader of this script's own, so that the program is held to a second reading of the rules.
+The listings and the texts come from a reader of this script's own, so that the programs are held to a second reading
+of the rules.
 Run it from the project's root.
 """
+import fractions
 import math
 import pathlib
 import struct
@@ -54,13 +56,14 @@ def decode(s, first):
     return (time, vehicle, kind), length
 
 
-def listing(s):
+def listing(s, limit=65536):
+    """The listing of a session; without a limit (None) that of a session as it comes."""
     lines, at, minutes = ['day cs vehicle kind'], 0, 0
-    if len(s) > 65536:
+    if limit is not None and len(s) > limit:
         lines.append('refused 12 at 0')
         at = len(s)
     while at < len(s):
-        got = decode(s[at:], at == 0)
+        got = decode(s[at:at + 62], at == 0)
         if isinstance(got, int):
             lines.append('refused %d at %d' % (got, at))
             break
@@ -71,6 +74,41 @@ def listing(s):
             time, vehicle, kind = what
             local = time + MINUTE * minutes
             lines.append('%d %d %d %s' % (local // DAY, local % DAY, vehicle, NAME[kind]))
+        at += length
+    return ''.join(line + '\n' for line in lines).encode()
+
+
+def places(x):
+    """x to six places, cut towards zero."""
+    millionths = abs(fractions.Fraction(x)) * 10**6 // 1
+    if abs(x) >= 2**43:
+        return 'large'
+    return '%s%d.%06d' % ('-' if math.copysign(1, x) < 0 else '', millionths // 10**6, millionths % 10**6)
+
+
+def text(s):
+    """The session as text: what `show` must write."""
+    lines, at, minutes = [], 0, 0
+    if len(s) > 65536:
+        lines.append('# refused 12 at 0')
+        at = len(s)
+    while at < len(s):
+        got = decode(s[at:], at == 0)
+        if isinstance(got, int):
+            lines.append('# refused %d at %d' % (got, at))
+            break
+        what, length = got
+        if isinstance(what, int):
+            minutes = what
+            lines += ['# offset %d minutes' % minutes, 'offset %d' % minutes]
+        else:
+            time, vehicle, kind = what
+            local = time + MINUTE * minutes
+            words = struct.unpack_from('<%dQ' % ((length - 14) // 8), s, at + 14)
+            numbers = struct.unpack_from('<%dd' % len(words), s, at + 14)
+            lines.append(' '.join(['# day %d cs %d: %s of vehicle %d' % (local // DAY, local % DAY, NAME[kind], vehicle), *map(places, numbers)]))
+            body = [str(s[at + 5])] if kind == STATE else []
+            lines.append(' '.join([NAME[kind], str(time), str(vehicle), *body, *('x%016X' % word for word in words)]))
         at += length
     return ''.join(line + '\n' for line in lines).encode()
 
@@ -129,6 +167,12 @@ def files():
         'samples/night.bin': night(),
         'crates/listing/data/session': refused,
         'crates/listing/stdout': listing(refused),
+        'crates/show/stdin': refused,
+        'crates/show/stdout': text(refused),
+        'crates/write/stdin': text(offset(-840) + whole + ends),
+        'crates/write/stdout': offset(-840) + whole + ends,
+        'crates/watch/stdin': refused,
+        'crates/watch/stdout': listing(refused, None),
     }
 
 

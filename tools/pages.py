@@ -26,11 +26,14 @@ CASES = {
     "transfer-time": [("theta/specs/Theta", TESTS), ("theta/specs/Theta", r"^numberOf Too\w+ = ([78])")],
     "apsides": [("apsides/specs/Apsides", TESTS)],
     "sight": [("sight/specs/Sight", TESTS), ("wheel/specs/Wheel", REFUSED)],
+    "settings": [("settings/specs/Allowed", TESTS), ("settings/specs/Allowed", r"^refusalBy Passed \w+ = cond \S+ \d+ \w+\) (\d+) 0"), ("settings/specs/History", REFUSED)],
     "root": [("root/specs/Root", REFUSED)],
     "series": [("series/specs/Series", REFUSED)],
     "trial": [("iterator/specs/Single", REFUSED)],
+    "writer": [("writer/specs/Write", REFUSED)],
     "reader": [("session/specs/Decode", REFUSED), ("session/specs/Offset", REFUSED), ("session/specs/Read", REFUSED)],
     "listing": [("session/specs/Decode", REFUSED), ("session/specs/Offset", REFUSED), ("session/specs/Read", REFUSED), ("lines/specs/Lines", REFUSED)],
+    "stream": [("session/specs/Decode", REFUSED), ("session/specs/Offset", REFUSED), ("stream/specs/Stream", REFUSED)],
 }
 
 

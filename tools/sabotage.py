@@ -5,9 +5,13 @@
 
 Prints the tables of docs/TESTS.md; ends with 1 if a slip changes none."""
 import pathlib
+import random
 import shutil
 import subprocess
 import sys
+
+sys.path.insert(0, str(pathlib.Path(__file__).parent))
+import records
 
 ROOT = pathlib.Path(__file__).resolve().parent.parent
 ROOM = ROOT / "target" / "sabotage"
@@ -92,7 +96,7 @@ REQUESTS = [
 
 
 SESSIONS = [
-    ("days cut towards zero", "listing.c", "int64_t day = local / DAY - (local % DAY < 0);", "int64_t day = local / DAY;"),
+    ("days cut towards zero", "listing.c", "(local_time){ local / DAY - (local % DAY < 0),", "(local_time){ local / DAY,"),
     ("a session of 65,537 bytes let in", "session.c", "if (size > SESSION_MAX)", "if (size > SESSION_MAX + 1)"),
     ("the end not told from a cut", "session.c", "return (reading){ .end = true, .place = from };", "return refused(11, from);"),
     ("under 5 bytes left for under 4", "session.c", "if (left < 4)", "if (left < 5)"),
@@ -103,7 +107,7 @@ SESSIONS = [
     ("vehicle 2 let in", "session.c", "r->vehicle > 1", "r->vehicle > 2"),
     ("a burn's byte not tested", "session.c", '[BURN] = { "burn", 38, 3, 0 }', '[BURN] = { "burn", 38, 3, 255 }'),
     ("infinite numbers let in", "session.c", "if (!isfinite(r->numbers[k]))", "if (isnan(r->numbers[k]))"),
-    ("T-03: the offset subtracted", "listing.c", "r->time + MINUTE", "r->time - MINUTE"),
+    ("T-03: the offset subtracted", "listing.c", "time + MINUTE", "time - MINUTE"),
     ("T-03: the offset read unsigned", "session.c", "r->offset = (int16_t)", "r->offset = (uint16_t)"),
     ("T-03: the offset forgotten behind the first record", "session.c", "offset ? r.offset : from.offset", "offset ? r.offset : 0"),
     ("T-03: `<` for `≤` at 840", "session.c", "offset <= OFFSET_MAX", "offset < OFFSET_MAX"),
@@ -115,6 +119,36 @@ SESSIONS = [
     ("T-03: `<` for `≤` at a time of 2^53", "session.c", "r->time > time_max", "r->time >= time_max"),
     ("T-03: `<` for `≤` at a time of −2^53", "session.c", "r->time < -time_max", "r->time <= -time_max"),
     ("T-03: no limit on times", "session.c", "    if (r->time < -time_max || r->time > time_max)\n        return false;\n", ""),
+]
+
+
+TEXTS = [
+    ("T-01: a record that is two bytes too long let in", "session.c", "end - used < length_of(r->kind)", "end - used + 2 < length_of(r->kind)"),
+    ("T-01: a record that just fits refused", "session.c", "end - used < length_of(r->kind)", "end - used <= length_of(r->kind)"),
+    ("T-01: 15 ahead of 14", "session.c", "    if (!allowed(r, used == 0))\n        return (writing){ 14, used };\n    if (used > end || end - used < length_of(r->kind))\n        return (writing){ 15, used };\n", "    if (used > end || end - used < length_of(r->kind))\n        return (writing){ 15, used };\n    if (!allowed(r, used == 0))\n        return (writing){ 14, used };\n"),
+    ("T-01: a late offset let in", "session.c", "r->kind == OFFSET ? first && offset_allowed", "r->kind == OFFSET ? (first || 1) && offset_allowed"),
+    ("T-01: an offset of any size let in", "session.c", "first && offset_allowed(r->offset) : fields", "first && offset_allowed((int16_t)r->offset) : fields"),
+    ("T-01: a vehicle cut to a byte", "text.c", "return read_count(w, letter == 'v' ? &r->vehicle : &r->byte);", "bool read = read_count(w, letter == 'v' ? &r->vehicle : &r->byte);\n    r->vehicle &= 255;\n    return read;"),
+    ("T-01: a body cut to a byte", "text.c", "return read_count(w, letter == 'v' ? &r->vehicle : &r->byte);", "bool read = read_count(w, letter == 'v' ? &r->vehicle : &r->byte);\n    r->byte &= 255;\n    return read;"),
+    ("T-01: the record's time over 2^53 written", "session.c", "    if (r->time < -time_max || r->time > time_max)\n        return false;\n", ""),
+    ("T-01: lines counted without comments", "records.c", "        number++;\n", "        number += length > 0 && line[0] != '#';\n"),
+    ("T-01: a surplus word let in", "text.c", "return next_word(&from).length == 0 ? READ : from.number;", "return READ;"),
+    ("T-01: what stood there goes when a line is refused", "records.c", 'fprintf(stderr, "line %ld: %s\\n", number, word);', 'fprintf(stderr, "line %ld: %s\\n", number, word), remove(name);'),
+    ("T-01: the records ahead of a refused line written", "records.c", 'fprintf(stderr, "line %ld: %s\\n", number, word);', 'fprintf(stderr, "line %ld: %s\\n", number, word), appear(name, session, used, replace);'),
+    ("T-01: body and vehicle exchanged", "text.c", '[STATE] = "ivbnnnnnn"', '[STATE] = "ibvnnnnnn"'),
+    ("T-01: the day without the offset", "text.c", "local_of(r->time, offset)", "local_of(r->time, 0 * offset)"),
+]
+
+
+WATCHED = [
+    ("T-08: 12 and 13 told with the fifth byte", "session.c", "        if (read.refused == 11)\n            continue;", "        if (read.refused == 11 || (read.refused && s->kept == 4))\n            continue;"),
+    ("T-08: the place counted from the part", "session.c", "        s->at = read.place;\n        s->kept = 0;", "        s->at = (place){ *taken, read.place.offset };\n        s->kept = 0;"),
+    ("T-08: the offset forgotten", "session.c", "        s->at = read.place;\n        s->kept = 0;", "        s->at = (place){ read.place.byte, 0 };\n        s->kept = 0;"),
+    ("T-08: an unfinished record taken for the end", "session.c", "s->kept ? refused(11, s->at) : (reading)", "s->kept > 61 ? refused(11, s->at) : (reading)"),
+    ("T-08: the limit of 65,536 bytes kept", "session.c", "(uint64_t)INT64_MAX - (s->at.byte + s->kept)", "(uint64_t)SESSION_MAX - (s->at.byte + s->kept)"),
+    ("T-08: each part read by itself", "session.c", "    while (*taken < size) {\n", "    s->kept = *taken == 0 ? 0 : s->kept;\n    while (*taken < size) {\n"),
+    ("T-08: 11 told while the input is open", "records.c", "    } while (!read.used_up && !read.refused);\n", "    } while (!read.used_up && !read.refused);\n    if (s->kept && s->kept < 4)\n        read = end_parts(s), say_line(&read);\n"),
+    ("T-08: lines kept back", "records.c", "    } while (!read.used_up && !read.refused);\n    fflush(stdout);\n", "    } while (!read.used_up && !read.refused);\n"),
 ]
 
 
@@ -145,12 +179,44 @@ def sessions(program):
     return [output(program, "list", path) for path in sorted(folder.iterdir())]
 
 
+def texts(program):
+    """300 sessions as text, and what becomes of 300 texts."""
+    folders = [ROOM / "shown", ROOM / "texts"]
+    for folder, made in zip(folders, ("sessions", "texts")):
+        if not folder.exists():
+            folder.mkdir()
+            output(program, made, "1", "300", folder)
+    return [output(program, "show", path) for path in sorted(folders[0].iterdir())] + [written(program, path) for path in sorted(folders[1].iterdir())]
+
+
+def watched(program):
+    """What `watch` writes of 100 sessions in parts, or None behind the third with a line that did not come in a second."""
+    folder, dice = ROOM / "watched", random.Random(1)
+    if not folder.exists():
+        folder.mkdir()
+        output(program, "sessions", "1", "100", folder)
+    records.PATIENCE = 1
+    answers = []
+    for path in sorted(folder.iterdir()):
+        pieces = records.parts(path.read_bytes(), dice)
+        late = sum(answer is None or answer[2] for answer in answers)
+        answers.append(records.watched(str(program), pieces) if late < 3 else None)
+    return answers
+
+
+def written(program, text):
+    path = ROOM / "written"
+    path.write_bytes(b"what stood there")
+    ran = subprocess.run([program, "write", "--replace", path], input=text.read_bytes(), capture_output=True)
+    return ran.returncode, ran.stderr, path.exists() and path.read_bytes()
+
+
 def changed(source, file, old, new, answers, right):
     """How many answers a slip changes."""
     text = (source / file).read_text()
     assert text.count(old) == 1, (file, old, text.count(old))
     (source / file).write_text(text.replace(old, new))
-    wrong = sum(a != b for a, b in zip(right, answers(built(source)), strict=True))
+    wrong = sum(b is not None and a != b for a, b in zip(right, answers(built(source)), strict=True))
     (source / file).write_text(text)
     return wrong
 
@@ -161,7 +227,7 @@ def main():
     source = ROOM / "second"
     shutil.copytree(ROOT / "second", source)
     unseen = 0
-    for slips, answers, heading in ((REQUESTS, requests, "answers that change"), (SESSIONS, sessions, "listings that change")):
+    for slips, answers, heading in ((REQUESTS, requests, "answers that change"), (SESSIONS, sessions, "listings that change"), (TEXTS, texts, "texts that change"), (WATCHED, watched, "sessions in parts that change")):
         slips = [slip for slip in slips if word in slip[0]]
         right = answers(built(source)) if slips else []
         print(f"\n| slip | {heading} |\n|---|---|")

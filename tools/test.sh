@@ -60,10 +60,14 @@ part "pages" python3 tools/pages.py
 part "published cases" python3 tools/published.py
 part "sample" python3 tools/make_sample.py --check
 part "the listing, on whole, cut, damaged and over-long sessions" python3 tools/listing_runs.py
+part "sessions as text, there and back, and text with faults" python3 tools/text_runs.py
+part "the listing of a session as it comes" python3 tools/watch_runs.py
 part "the front, where things go wrong" python3 tools/front_runs.py
 part "stored requests" bash tools/compare.sh stored
 part "fresh requests" bash tools/compare.sh requests
 part "solves stopped and gone on with" bash tools/compare.sh stops
 part "fresh sessions" bash tools/compare.sh sessions
+part "fresh sessions as text" bash tools/compare.sh texts
+part "fresh sessions in parts" bash tools/compare.sh parts
 whole=yes
 [ "$failed" -eq 0 ]

@@ -13,6 +13,8 @@ use Rattle.text.proofs.Lays.{concat-append}
 use Rattle.columns.proofs.RowLaws.{end-short, labelled-short, refused-fits}
 use Rattle.real.specs.declared.Answer.{Answer}
 use Rattle.real.specs.declared.Answer.the-variants as A
+use Rattle.real.specs.Numbers.{answerNumber}
+use Rattle.iterator.specs.Single.{triedNumber}
 use Rattle.iterator.specs.declared.Tried.{Tried}
 use Rattle.iterator.specs.declared.Tried.the-variants as T
 use Rattle.theta.specs.Theta as Theta
@@ -48,13 +50,13 @@ point-short n = simp length-append (omega (arith, signed-short n))
 
 pub answer-fits : (a : Answer) → size (answerPieces a) ≤ 512
 answer-fits (A.Value x) = omega (arith, one-short (ascii "value") x)
-answer-fits (A.Refused n) = refused-fits n
+answer-fits (A.Refused n) = refused-fits (answerNumber (A.Refused n))
 
 pub tried-fits : (a : Tried) → size (triedPieces a) ≤ 512
 unfolding concat
 tried-fits (T.Point n) = omega (arith, point-short n)
 tried-fits T.NoneLeft = lit≤ tt
-tried-fits (T.Refused n) = refused-fits n
+tried-fits (T.Refused n) = refused-fits (triedNumber (T.Refused n))
 
 pub timed-fits : (a : TransferTime) → size (timedPieces a) ≤ 512
 timed-fits (Ti.Time x) = omega (arith, one-short (ascii "time") (x .time))

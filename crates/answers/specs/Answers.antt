@@ -8,6 +8,8 @@ use Rattle.text.specs.Text.{ascii, signedText}
 use Rattle.columns.specs.Rows.{labelledPieces, endPieces, refusedPieces}
 use Rattle.real.specs.declared.Answer.{Answer}
 use Rattle.real.specs.declared.Answer.the-variants as A
+use Rattle.real.specs.Numbers.{answerNumber}
+use Rattle.iterator.specs.Single.{triedNumber}
 use Rattle.iterator.specs.declared.Tried.{Tried}
 use Rattle.iterator.specs.declared.Tried.the-variants as T
 use Rattle.theta.specs.Theta as Theta
@@ -37,12 +39,12 @@ nonePieces = ascii "none\n" ∷ []
 -- `value D bits X`
 abbrev pub answerPieces : Answer → List (List ℕ)
 answerPieces (A.Value x) = onePieces (ascii "value") x
-answerPieces (A.Refused n) = refusedPieces n
+answerPieces (A.Refused n) = refusedPieces (answerNumber (A.Refused n))
 
 abbrev pub triedPieces : Tried → List (List ℕ)
 triedPieces (T.Point n) = pointPieces n
 triedPieces T.NoneLeft = nonePieces
-triedPieces (T.Refused n) = refusedPieces n
+triedPieces (T.Refused n) = refusedPieces (triedNumber (T.Refused n))
 
 -- `time D bits X`
 abbrev pub timedPieces : TransferTime → List (List ℕ)

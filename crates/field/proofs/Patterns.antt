@@ -1,9 +1,10 @@
 -- Which 64 bits are those of a NaN. Assumes nothing.
 use Prim.Native.Nat.{ℕ, _%_, _≤_, _<_}
-use mathlib.Core.Path.{_≡_, refl, sym, _∙_}
-use mathlib.Core.Bool.{true, not, true≢false}
+use mathlib.Core.Path.{_≡_, refl, sym, ap, _∙_, subst}
+use mathlib.Core.Bool.{true, false, not, true≢false}
 use lib.Dec.{T}
-use lib.Ieee.{Float, nan, inf, fin, binary64, div, ofBits, ofFields, odd, isNan, nanBits}
+use lib.Ieee.{Float, nan, inf, fin, binary64, div, ofBits, ofFields, toBits, odd, isNan, nanBits, ne}
+use lib.Ieee.Compare.{differs-from-itself}
 use lib.Ieee.Bits.{nanBits-is, nanBits-above}
 use borrow.Author.Tests.{lt-ltb, le-ltb}
 
@@ -22,3 +23,14 @@ nan-bits n h = quiet ∙ sym (is-nan (ofBits binary64 n) (sym (nanBits-is binary
 
 pub no-nan-bits : (n : ℕ) → n % 9223372036854775808 ≤ 9218868437227405312 → T (not (nanBits binary64 n))
 no-nan-bits n h = rw (nanBits-above binary64 n, le-ltb _ _ h) tt
+
+-- what differs from itself is the NaN, which has one pattern
+pub nan-pattern : (x : Float) → ne x x ≡ true → toBits binary64 x ≡ 9221120237041090560
+unfolding toBits
+nan-pattern x e = ap (toBits binary64) (differs-from-itself x (subst T (sym e) tt))
+
+pub no-nan : (x : Float) → ne x x ≡ false → T (not (isNan x))
+unfolding ne isNan
+no-nan nan e = absurd (true≢false e)
+no-nan (inf s) e = tt
+no-nan (fin s m e) h = tt

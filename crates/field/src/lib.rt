@@ -1,4 +1,8 @@
-// The fields of bytes, little-endian: numbers read at a place.
+// The fields of bytes, little-endian: numbers read at a place, and put there.
+mod writing;
+
+pub use writing::put;
+pub use writing::put_float;
 ghost use Prim.Native.Nat.{_%_, _^_, _≤_, _<_, min};
 ghost use mathlib.Core.Path.{_≡_};
 ghost use lib.ListN.{length};

@@ -3,7 +3,7 @@
 use Prim.Native.Nat.{ℕ, zero, suc, _+_, _*_, _^_, _≤_, _<_}
 use native.Mathlib.Omega.{arith}
 use mathlib.Core.Path.{_≡_, refl, sym, _∙_, subst}
-use mathlib.Core.Bool.{Bool, true, false, cond, _||_, true≢false}
+use mathlib.Core.Bool.{Bool, true, false, cond, not, _||_, true≢false}
 use borrow.Author.Tests.{ltb-true, ltb-false, lt-ltb, eq-eqb}
 use lib.Dec.{T, ltb, eqb}
 use lib.IntN.{ℤ, pos, negℤ}
@@ -11,9 +11,9 @@ use lib.Signed.{ltZ, leZ, _<ℤ_, _≤ℤ_, ltZ-yes, leZ-yes}
 use lib.Ieee.{Float, nan, inf, fin, up, down, below, level, lt, le, eq, ofBits}
 use Rattle.real.specs.F64.{_≤ᶠ_, finite}
 use Rattle.iterator.specs.Judged.{inTime, judgedOf}
-use Rattle.iterator.specs.Rule.{Grid, widthOf}
+use Rattle.iterator.specs.Rule.{Grid, widthOf, pointOf}
 use Rattle.iterator.specs.Run.{narrowed, nextPoint, next, more, run, runTo}
-use Rattle.iterator.specs.Single.{timeFinite, allFinite, inGrid, timeInTime, allInTime, isBelow, isAbove, agrees, endsAgree, soundOf, nextTrialOf, trialOf, moreLeft}
+use Rattle.iterator.specs.Single.{timeFinite, allFinite, inGrid, timeInTime, allInTime, isBelow, isAbove, agrees, endsAgree, soundOf, nextTrialOf, trialOf, triedNumber, moreLeft}
 use Rattle.iterator.specs.declared.Judgement.{Judgement}
 use Rattle.iterator.specs.declared.Judgement.the-variants.{Low, High, Under, Over}
 use Rattle.iterator.specs.declared.Bracket.{Bracket}
@@ -280,3 +280,26 @@ module _ {asked : Float} {s : Bracket} (h : Sound asked s) where
 pub more-is : {asked : Float} {s : Bracket} → Sound asked s → moreLeft (s .lo) (s .hi) ≡ more s
 unfolding moreLeft
 more-is h = simp (in-grid-is h)
+
+-- ---- the single trial's number: 1 for a time that is not finite, then 6 unless the ends are sound
+pub trial-number : (asked : Float) (lo hi : ℤ) (below above : Judgement) (k : ℕ)
+    → triedNumber (trialOf asked lo hi below above k) ≡ cond (not (allFinite asked below above)) 1 (cond (not (soundOf asked lo hi below above)) 6 0)
+unfolding trialOf triedNumber nextTrialOf soundOf
+trial-number asked lo hi below above k = go (allFinite asked below above) (soundOf asked lo hi below above) refl
+  where
+    grid : soundOf asked lo hi below above ≡ true → inGrid lo hi ≡ true
+    grid e = and-0 (inGrid lo hi) _ e
+
+    made : (g w : Bool) → g ≡ true → triedNumber (cond (not g) (Refused 6) (cond w (Point (pointOf asked lo hi below above k)) NoneLeft)) ≡ 0
+    made true true e = refl
+    made true false e = refl
+    made false w e = absurd (true≢false (sym e))
+
+    next : inGrid lo hi ≡ true → triedNumber (nextTrialOf asked lo hi below above k) ≡ 0
+    next e = made (inGrid lo hi) (ltb 1 (widthOf lo hi)) e
+
+    go : (f s : Bool) → soundOf asked lo hi below above ≡ s
+        → triedNumber (cond (not f) (Refused 1) (cond (not s) (Refused 6) (nextTrialOf asked lo hi below above k))) ≡ cond (not f) 1 (cond (not s) 6 0)
+    go false s e = refl
+    go true false e = refl
+    go true true e = next (grid e)

@@ -1,10 +1,10 @@
--- Rows 1 to 5 of the refusal table. Assumes nothing: these are definitions.
+-- Rows 1 to 5 of the refusal table, and the radius of row 22. Assumes nothing: these are definitions.
 use Prim.Native.Nat.{ℕ}
 use mathlib.Core.List.{List, [], _∷_, _++_}
 use lib.Ieee.{Float}
 use Rattle.real.specs.F64.{two^, f0}
 use Rattle.table.specs.declared.Name.{Name}
-use Rattle.table.specs.declared.Name.the-variants.{Mu, Position, Velocity, Time}
+use Rattle.table.specs.declared.Name.the-variants.{Mu, Position, Velocity, Time, Radius}
 use Rattle.table.specs.declared.Part.the-variants.{X, Y, Z, Length, Whole}
 use Rattle.table.specs.declared.Limit.the-variants.{Finite, AtLeast, Under, Over, SizeAtMost, SizeUnder}
 use Rattle.table.specs.declared.Entry.{Entry}
@@ -59,3 +59,7 @@ timeRow t = entry 5 Time Whole t (SizeAtMost (two^ 28)) ∷ []
 
 abbrev pub transferTimeRow : Float → List Entry
 transferTimeRow t = timeRow t ++ (entry 5 Time Whole t (Over f0) ∷ [])
+
+-- 22: a radius not over 0 and under 2^29
+abbrev pub radiusRow : Float → List Entry
+radiusRow radius = entry 22 Radius Whole radius (Over f0) ∷ entry 22 Radius Whole radius (Under (two^ 29)) ∷ []

@@ -1,4 +1,5 @@
-// Rows 1 to 5 of the refusal table, which look at an input alone, and the components that row 9 looks at too.
+// Rows 1 to 5 of the refusal table, which look at an input alone, the components that row 9 looks at too, and the radius of
+// row 22.
 use table::Name;
 use table::Part;
 use table::Test;
@@ -7,7 +8,7 @@ use vector::Vector;
 ghost use mathlib.Core.Path.{_≡_};
 ghost use Rattle.table.specs.declared.Test.the-variants.{Passed};
 ghost use Rattle.table.specs.Tests.{_▷_};
-ghost use Rattle.rows.specs.Rows.{finiteNumber, finiteVector, finiteInputs, muRow, positionComponents, positionRow, velocityComponents, stateRows, timeRow, transferTimeRow};
+ghost use Rattle.rows.specs.Rows.{finiteNumber, finiteVector, finiteInputs, muRow, positionComponents, positionRow, velocityComponents, stateRows, timeRow, transferTimeRow, radiusRow};
 
 // Row 1, of a number and of a vector.
 pub fn finite_number(t: Test, name: Name, x: f64) -> Test
@@ -87,4 +88,12 @@ pub fn transfer_time_row(t: Test, time: f64) -> Test
     ensures { λ r. ⌜ r ≡ t ▷ transferTimeRow time ⌝ }
 {
     table::over(time_row(t, time), 5, Name::Time, Part::Whole, time, 0.0)
+}
+
+// Row 22, of a body's surface radius.
+pub fn radius_row(t: Test, radius: f64) -> Test
+    ensures { λ r. ⌜ r ≡ t ▷ radiusRow radius ⌝ }
+{
+    let x = table::over(t, 22, Name::Radius, Part::Whole, radius, 0.0);
+    table::under(x, 22, Name::Radius, Part::Whole, radius, 536870912.0)
 }

@@ -70,6 +70,14 @@ either-given : (b first : Bool) (s : List ℕ) → GivenIn (cond b (offsetOf fir
 either-given true first s = offset-given (eqb (field 0 2 s) 8) (ltb (length s) 8) (goodOffset first s) (minutesAt s)
 either-given false first s = decoded-given (headOf s) s (head-given s)
 
+told-in : (d : Decoded) (n : ℕ) → d ≡ D.Refused n → GivenIn d → Given n
+told-in (D.Whole r m) n e g = let z : _≡_ {A = ℕ} 0 1 = cc in let w : ⊥ = omega arith in absurd w
+told-in (D.Offset z) n e g = let z : _≡_ {A = ℕ} 0 1 = cc in let w : ⊥ = omega arith in absurd w
+told-in (D.Refused m) n e g = let y : m ≡ n = cc in rw (← y) g
+
+pub decode-number : (first : Bool) (s : List ℕ) (n : ℕ) → decodeAt first s ≡ D.Refused n → Given n
+decode-number first s n e = told-in (decodeAt first s) n e (either-given (isOffset s) first s)
+
 -- the number and the place of what was read at a place
 abbrev GivenAt : Bool → Place → Reading → Type 0
 GivenAt long p (Record r q) = Unit {0}

@@ -89,8 +89,15 @@ module _ (mu : Float) (s : State) (sin cos : Float) where
   tests = thetaTests mu s sin cos S
 
   -- the number of the first row that applies, in the order of the table
-  pub theta-table : Tests.numberOf (firstFailing tests) ≡ firstRow tableOrder tests
-  theta-table = first-row tableOrder tests refl
+  pub theta-table : numberOf (thetaOf mu s sin cos) ≡ cond (Tests.passes (firstFailing tests)) (numberOf (toldOf s (reachOf (arcOf mu S)))) (firstRow tableOrder tests)
+  unfolding answered numberOf Tests.passes Tests.numberOf
+  theta-table =
+      by-tests (firstFailing tests)
+      ∙ ap (λ (n : ℕ). cond (Tests.passes (firstFailing tests)) (numberOf (toldOf s (reachOf (arcOf mu S)))) n) (first-row tableOrder tests refl)
+    where
+      by-tests : (p : Test) → numberOf (answered p (toldOf s (reachOf (arcOf mu S)))) ≡ cond (Tests.passes p) (numberOf (toldOf s (reachOf (arcOf mu S)))) (Tests.numberOf p)
+      by-tests Passed = refl
+      by-tests (Failed e) = refl
 
   -- an input that is infinite or not a number is refused with 1, whatever else holds
   pub theta-not-finite : (finite mu && allFinite (positionOf s) && allFinite (velocityOf s) && finite sin && finite cos) ≡ false → numberOf (thetaOf mu s sin cos) ≡ 1

@@ -1,5 +1,6 @@
 -- By the answer's case. Assumes nothing.
 use borrow.Author.Needs.{needs}
+use Rattle.real.specs.Numbers.{answerNumber}
 use Rattle.answers.proofs.tell_number.Statement.{statement}
 use Rattle.answers.proofs.tell_number.Tie as tie
 
@@ -28,6 +29,7 @@ same-length-2 : tie.Need-same-length-2
 same-length-2 c = search needs
 
 returns-2 : tie.Need-returns-2
+unfolding answerNumber
 returns-2 c = rw (c .before .before .before .before .before .a2 .given .1) (c .before .before .refused .ensures)
 
 pub tell-number-spec : {M : Type 1} → statement M

@@ -3,6 +3,7 @@ use mir.Syntax.{w64}
 use mir.Facts.{toZ-ofZ}
 use Rattle.text.proofs.Lays.{one as piece}
 use borrow.Author.Needs.{needs}
+use Rattle.iterator.specs.Single.{triedNumber}
 use Rattle.answers.proofs.tell_trial.Statement.{statement}
 use Rattle.answers.proofs.tell_trial.Tie as tie
 
@@ -45,6 +46,7 @@ same-length-3 : tie.Need-same-length-3
 same-length-3 c = search needs
 
 returns-3 : tie.Need-returns-3
+unfolding triedNumber
 returns-3 c = rw (c .before .before .before .before .before .a2 .given .1) (c .before .before .refused .ensures)
 
 pub tell-trial-spec : {M : Type 1} → statement M

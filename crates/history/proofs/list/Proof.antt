@@ -1,0 +1,43 @@
+-- The listing lies within its buffer. Assumes nothing.
+use lib.Dec.{lit≤}
+use Rattle.history.proofs.Inside.{line-inside}
+use borrow.Author.Needs.{needs}
+use Rattle.history.proofs.list.Statement.{statement}
+use Rattle.history.proofs.list.Tie as tie
+
+slice-aggregate-list : tie.Need-slice-aggregate-list
+slice-aggregate-list c = search needs
+
+list-requires : tie.Need-list-requires
+list-requires c κs = search needs
+
+enum-known-n : tie.Need-enum-known-n
+enum-known-n c = search needs
+
+slice-aggregate-print : tie.Need-slice-aggregate-print
+slice-aggregate-print c = search needs
+
+print-requires : tie.Need-print-requires
+print-requires c κs = line-inside 16384 _ _ _ _ _ (lit≤ tt) (c .before .before .before .before .before .list .ensures) (c .before .before .n .given .1)
+
+enum-told : tie.Need-enum-told
+enum-told c = search needs
+
+returns : tie.Need-returns
+returns c = search needs
+
+returns-2 : tie.Need-returns-2
+returns-2 c = search needs
+
+pub list-spec : {M : Type 1} → statement M
+list-spec =
+    tie.close
+    (tie.spec
+    slice-aggregate-list
+    list-requires
+    enum-known-n
+    slice-aggregate-print
+    print-requires
+    enum-told
+    returns
+    returns-2)

@@ -1,0 +1,7 @@
+pub mod Versions
+pub mod Cases
+pub mod Allows
+pub mod Backs
+pub mod Wholes
+pub mod Laws
+pub mod Sessions

@@ -1,0 +1,3 @@
+pub mod Allowed
+pub mod Layout
+pub mod History
