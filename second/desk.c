@@ -1,5 +1,6 @@
 #include "desk.h"
 
+#include "cdh.h"
 #include "pen.h"
 #include "real.h"
 #include "sight.h"
@@ -19,6 +20,7 @@ const form forms[ROUTINES] = {
     [APSIDES] = { "apsides", "nnnnnnn" },
     [WHEEL] = { "wheel", "k" },
     [SIGHT] = { "sight", "nnnnnnknnnnnn" },
+    [CDH] = { "cdh", "knnnnnnnninnnnnniii" },
 };
 
 /* Reading. */
@@ -188,6 +190,16 @@ static void say_sight(pen *p, sight_answer a)
                     (double[]){ a.k[0], a.k[1], first.x, first.y, first.z, second.x, second.y, second.z });
 }
 
+static void say_cdh(pen *p, cdh_answer a)
+{
+    vector c = a.change;
+    if (a.refused)
+        say(p, "refused %d", a.refused);
+    else
+        say_numbers(p, a.after.closed ? "change D D D closed near D far D" : "change D D D open near D",
+                    (double[]){ c.x, c.y, c.z, a.after.near, a.after.far });
+}
+
 static vector vector_at(const word *w)
 {
     return (vector){ w[0].number, w[1].number, w[2].number };
@@ -196,6 +208,12 @@ static vector vector_at(const word *w)
 static state state_at(const word *w)
 {
     return (state){ vector_at(w), vector_at(w + 3) };
+}
+
+static cdh_answer cdh_of(const word *w)
+{
+    timed_state active = { state_at(w + 3), w[9].whole }, passive = { state_at(w + 10), w[16].whole };
+    return cdh(w[0].count, w[1].number, w[2].number, active, passive, w[17].whole, w[18].whole);
 }
 
 void answer_request(const request *asked, char out[ANSWER_MAX])
@@ -232,8 +250,11 @@ void answer_request(const request *asked, char out[ANSWER_MAX])
     case WHEEL:
         say_wheel(&p, wheel(w[0].count));
         break;
-    default:
+    case SIGHT:
         say_sight(&p, sight(vector_at(w), vector_at(w + 3), w[6].count, vector_at(w + 7), vector_at(w + 10)));
+        break;
+    default:
+        say_cdh(&p, cdh_of(w));
     }
 }
 

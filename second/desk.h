@@ -6,7 +6,7 @@
 #include "iterator.h"
 #include "words.h"
 
-enum routine { ROOT, C, S, TRIAL, KEPLER, LAMBERT, THETA, APSIDES, WHEEL, SIGHT, ROUTINES };
+enum routine { ROOT, C, S, TRIAL, KEPLER, LAMBERT, THETA, APSIDES, WHEEL, SIGHT, CDH, ROUTINES };
 
 /* A routine's name and a letter for each word behind it:
  * n a number, i a whole number (i64), k a count (u64), j a judgement, w the way round: short, long, or normal and three
@@ -15,7 +15,7 @@ typedef struct { const char *name, *words; } form;
 
 extern const form forms[ROUTINES];
 
-enum { WORDS_MAX = 13, ANSWER_MAX = 800 };
+enum { WORDS_MAX = 19, ANSWER_MAX = 800 };
 
 typedef union {
     double number;

@@ -217,6 +217,55 @@ static void some_sight(word *w)
     put_vector(w + 10, up);
 }
 
+/* A second orbit in line with one of these, at a distance in its plane or nearly so; a few steps of a grid of whole cs away. */
+static state beside_orbit(const orbit *o)
+{
+    vector r = o->at.r, n = cross(r, o->at.v), up = over(r, length(r)), along = over(cross(n, r), length(n) * length(r));
+    double h = either_sign(one_in(8) ? scaled(-8, -4) : scaled(-4, 4)), higher = 1 + either_sign(scaled(-9, one_in(8) ? 2 : -4));
+    vector to = plus(times(cosine_of(h), up), times(sine_of(h), along));
+    vector forward = plus(times(-sine_of(h), up), times(cosine_of(h), along));
+    if (one_in(2))
+        to = plus(to, times(scaled(-12, -4), direction()));
+    double r2 = length(r) * fabs(higher), speed = sqrt(o->mu / r2) * uniform(0.98, 1.02);
+    return (state){ times(r2, over(to, length(to))), times(speed, forward) };
+}
+
+static int64_t some_whole_time(int64_t about)
+{
+    static const int64_t limits[] = { INT64_C(1) << 28, (INT64_C(1) << 28) + 1, -(INT64_C(1) << 28), -(INT64_C(1) << 28) - 1 };
+    if (one_in(12))
+        return about - limits[below(4)];
+    if (one_in(32))
+        return one_in(2) ? INT64_MIN : INT64_MAX;
+    return one_in(4) ? about : about + (int64_t)below(2000000) - 1000000;
+}
+
+/* A passive vehicle on a nearly circular orbit, mostly, and an active one that is to fly beside it. */
+static void some_cdh(word *w)
+{
+    orbit o = some_orbit();
+    uint64_t body = below(2);
+    int64_t t2 = one_in(16) ? (one_in(2) ? INT64_MAX : INT64_MIN) : (int64_t)below(1000000000) - 500000000;
+    if (!one_in(4)) {
+        double r = (body ? 1.74e6 : 6.4e6) * uniform(1.03, 1.5);
+        vector up = direction();
+        o = (orbit){ body ? 490277800 : 39860120000, 1, { times(r, up), times(1, across(up)) } };
+        o.at.v = plus(times(sqrt(o.mu / r) * uniform(0.95, 1.15), o.at.v), times(uniform(-1, 1), up));
+    }
+    state active = beside_orbit(&o);
+    w[0].count = one_in(32) ? 2 + below(3) : body;
+    w[1].number = one_in(32) ? oddity() : one_in(8) ? length(o.at.r) * uniform(0.1, 1) : body ? 1738090 : 6378165;
+    w[2].number = o.mu;
+    put_vector(w + 3, active.r);
+    put_vector(w + 6, active.v);
+    w[9].whole = some_whole_time(t2);
+    put_vector(w + 10, o.at.r);
+    put_vector(w + 13, o.at.v);
+    w[16].whole = some_whole_time(t2);
+    w[17].whole = t2;
+    w[18].whole = one_in(8) ? INT64_MAX : t2 > INT64_MAX - 70000 ? t2 : t2 + (one_in(4) ? 60000 + beside() : 600000);
+}
+
 request some_request(enum routine routine)
 {
     request q = { .routine = routine };
@@ -239,6 +288,9 @@ request some_request(enum routine routine)
         break;
     case SIGHT:
         some_sight(q.words);
+        break;
+    case CDH:
+        some_cdh(q.words);
         break;
     default:
         put_orbit(&q, &o);

@@ -10,7 +10,7 @@
 #include <stdio.h>
 
 /* Edges. What a number of a solve stands for: mu, r a position, v a velocity, t a time, a an angle or a part of
- * a unit vector; - no number. */
+ * a unit vector, s a surface radius; - no number. */
 
 static const char *const meanings[ROUTINES] = {
     [KEPLER] = "mrrrvvvt",
@@ -18,6 +18,7 @@ static const char *const meanings[ROUTINES] = {
     [THETA] = "mrrrvvvaa",
     [APSIDES] = "mrrrvvv",
     [SIGHT] = "rrrrrr-aaaaaa",
+    [CDH] = "-smrrrvvv-rrrvvv",
 };
 
 static double some_limit(char meaning)
@@ -29,6 +30,8 @@ static double some_limit(char meaning)
         return either_sign(near(one_in(2) ? 0x1p18 : 0x1p29));
     case 'v':
         return either_sign(near(0x1p7));
+    case 's':
+        return near(one_in(2) ? 0 : 0x1p29);
     case 't':
         return either_sign(near(one_in(2) ? 0 : 0x1p28));
     default:
@@ -44,14 +47,20 @@ static size_t some_field(const request *q)
     return meaning[k] == '-' ? k + 1 : k;
 }
 
+/* Where the position starts that number k is of. */
+static size_t start_of_position(enum routine routine, size_t k)
+{
+    size_t first = routine == SIGHT ? 0 : routine != CDH ? 1 : k < 10 ? 3 : 10;
+    return first + (k - first) / 3 * 3;
+}
+
 /* One number set to a limit of its row or to an oddity; a position also along one axis alone. */
 static request at_a_limit(request q)
 {
     size_t k = some_field(&q);
     char meaning = meanings[q.routine][k];
-    size_t first = q.routine == SIGHT ? 0 : 1;
     if (meaning == 'r' && one_in(2))
-        put_vector(q.words + first + (k - first) / 3 * 3, (vector){ 0, one_in(2) ? -0.0 : 0, 0 });
+        put_vector(q.words + start_of_position(q.routine, k), (vector){ 0, one_in(2) ? -0.0 : 0, 0 });
     q.words[k].number = one_in(4) ? oddity() : some_limit(meaning);
     return q;
 }
@@ -150,7 +159,7 @@ static void emit_some(void)
 {
     static const enum routine often[] = {
         ROOT, C, S, TRIAL, TRIAL, KEPLER, KEPLER, KEPLER, KEPLER, LAMBERT, LAMBERT, LAMBERT, LAMBERT,
-        THETA, THETA, APSIDES, SIGHT,
+        THETA, THETA, APSIDES, SIGHT, CDH,
     };
     if (one_in(20)) {
         request q = some_request((enum routine)below(ROUTINES));

@@ -63,6 +63,16 @@ void time_row(failure *f, double t)
     must(f, time_in_range(t), 5, "t", t, "at most 2^28 in size");
 }
 
+void body_test(failure *f, uint64_t body)
+{
+    must(f, body <= 1, 14, "body", (double)body, "0 or 1");
+}
+
+void radius_test(failure *f, double radius)
+{
+    must(f, 0 < radius && radius < 0x1p29, 22, "radius", radius, "over 0 and under 2^29");
+}
+
 void position_result(failure *f, vector r)
 {
     under(f, 9, of_r, r, 0x1p29, "under 2^29 in size");

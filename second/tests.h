@@ -2,6 +2,7 @@
 #ifndef TESTS_H
 #define TESTS_H
 
+#include <stdint.h>
 #include "vector.h"
 
 /* The first test that failed: its number in 01 and 02 (0: none), whose amount it was, and what it must be. */
@@ -25,6 +26,10 @@ void mu_row(failure *f, double mu);
 void position_row(failure *f, names name, vector r);
 void velocity_row(failure *f, vector v);
 void time_row(failure *f, double t);
+
+/* 14 and 22 for a body and its surface radius. */
+void body_test(failure *f, uint64_t body);
+void radius_test(failure *f, double radius);
 
 /* Row 9's components. */
 void position_result(failure *f, vector r);

@@ -48,4 +48,9 @@ static inline vector plus(vector a, vector b)
     return (vector){ a.x + b.x, a.y + b.y, a.z + b.z };
 }
 
+static inline vector minus(vector a, vector b)
+{
+    return (vector){ a.x - b.x, a.y - b.y, a.z - b.z };
+}
+
 #endif

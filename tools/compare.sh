@@ -1,7 +1,7 @@
 #!/usr/bin/env bash
 # compare.sh stored | requests | stops | sessions | texts | parts: the linked programs against the second program (second/), on
 # the stored requests, on fresh ones, on solves stopped by a limit and gone on with, on fresh sessions, on sessions as text,
-# and on sessions that come in parts. The seed of the fresh ones is printed; CABIN_SEED=N makes the same again.
+# and on sessions that come in parts; `heights` holds the constant-height burn to its sense. The seed of the fresh ones is printed; CABIN_SEED=N makes the same again.
 home=$(cd "$(dirname "${BASH_SOURCE[0]}")/.." && pwd -P)
 . "$home/tools/front.sh"
 cd "$home"
@@ -87,6 +87,12 @@ parts() {
     echo "60 fresh sessions in parts, seed $seed"
     ready watch
     python3 tools/records.py --watch ./cabin "$second" 60 "$seed"
+}
+
+# That the burn makes two orbits coelliptic, which no rule asks for.
+heights() {
+    ready desk
+    python3 tools/coelliptic.py "${start[*]} ${program[desk]}" 1000 "$seed"
 }
 
 need make make

@@ -25,6 +25,7 @@ ANSWERS = {
     "apsides": ["closed", "open"] + [f"refused {n}" for n in (1, 2, 3, 4, 6, 19)],
     "wheel": ["sine", "refused 16"],
     "sight": ["points"] + [f"refused {n}" for n in (1, 3, 16, 17, 18)],
+    "cdh": ["closed", "open"] + [f"refused {n}" for n in (14, 22, 25, 5, 1, 2, 3, 4, 10, 6, 19, 7, 8, 9, 26, 27, 28)],
     "a line that cannot be read": [f"unread {n}" for n in range(23)],
 }
 
@@ -37,7 +38,7 @@ def kind_of(request, answer):
     routine = request.split()[0]
     if words[0] == "refused":
         return routine, " ".join(words[:2])
-    return routine, words[words.index("grade") + 1] if words[0] == "done" else words[0]
+    return routine, words[words.index("grade") + 1] if words[0] == "done" else words[4] if words[0] == "change" else words[0]
 
 
 def reached():

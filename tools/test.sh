@@ -66,6 +66,7 @@ part "the front, where things go wrong" python3 tools/front_runs.py
 part "stored requests" bash tools/compare.sh stored
 part "fresh requests" bash tools/compare.sh requests
 part "solves stopped and gone on with" bash tools/compare.sh stops
+part "the height behind the burn" bash tools/compare.sh heights
 part "fresh sessions" bash tools/compare.sh sessions
 part "fresh sessions as text" bash tools/compare.sh texts
 part "fresh sessions in parts" bash tools/compare.sh parts

@@ -77,5 +77,16 @@ pub enum Request {
     },
     Look(Look),
     Solve(Solve),
+    Burn {
+        body: u64,
+        radius: f64,
+        mu: f64,
+        active: State,
+        ta: i64,
+        passive: State,
+        tp: i64,
+        t2: i64,
+        t3: i64,
+    },
     Unread(u64),
 }

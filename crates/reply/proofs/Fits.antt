@@ -12,7 +12,7 @@ use Rattle.solve.specs.Answers.{advanceTo, transferVelocityTo}
 use Rattle.theta.specs.Theta.{thetaOf}
 use Rattle.apsides.specs.Apsides.{apsidesOf}
 use Rattle.forms.specs.declared.Request.{Request}
-use Rattle.forms.specs.declared.Request.the-variants.{Nothing, Root, C, S, Trial, Unread}
+use Rattle.forms.specs.declared.Request.the-variants.{Nothing, Root, C, S, Trial, Burn, Unread}
 use Rattle.forms.specs.declared.Request.the-variants as Q
 use Rattle.forms.specs.declared.Look.{Look}
 use Rattle.forms.specs.declared.Look.the-variants.{Wheel, Sight}
@@ -24,6 +24,8 @@ use Rattle.solutions.proofs.Lengths.{advanced-fits, transferred-fits}
 use Rattle.wheel.specs.Wheel.{wheelOf}
 use Rattle.sight.specs.Sight.{sightOf}
 use Rattle.views.proofs.Lengths.{wheel-fits, sight-fits}
+use Rattle.burn.specs.Burn.{burnOf}
+use Rattle.changes.proofs.Lengths.{burn-fits}
 use Rattle.reply.specs.Replies.{room, solvedOf, lookedOf, replyOf}
 
 solved-fits : (x : Solve) → length (concat (solvedOf x)) ≤ room
@@ -47,6 +49,7 @@ reply-fits (S xi) = answer-fits (sAnswer xi)
 reply-fits (Trial asked lo hi below above k) = tried-fits (trialOf asked lo hi below above k)
 reply-fits (Q.Look x) = looked-fits x
 reply-fits (Q.Solve x) = solved-fits x
+reply-fits (Burn body radius mu active ta passive tp t2 t3) = burn-fits (burnOf (record { body = body; radius = radius; mu = mu }) active ta passive tp t2 t3)
 reply-fits (Unread w) = unread-fits w
 
 pub laid-as : {d : List ℕ} {at : ℕ} {xs ys : List (List ℕ)} {e : List ℕ} {r : ℕ} → xs ≡ ys → Laid d at xs e r → Laid d at ys e r

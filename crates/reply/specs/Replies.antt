@@ -10,7 +10,7 @@ use Rattle.solve.specs.Answers.{advanceTo, transferVelocityTo}
 use Rattle.theta.specs.Theta.{thetaOf}
 use Rattle.apsides.specs.Apsides.{apsidesOf}
 use Rattle.forms.specs.declared.Request.{Request}
-use Rattle.forms.specs.declared.Request.the-variants.{Nothing, Root, C, S, Trial, Unread}
+use Rattle.forms.specs.declared.Request.the-variants.{Nothing, Root, C, S, Trial, Burn, Unread}
 use Rattle.forms.specs.declared.Request.the-variants as Q
 use Rattle.forms.specs.declared.Look.{Look}
 use Rattle.forms.specs.declared.Look.the-variants.{Wheel, Sight}
@@ -22,6 +22,8 @@ use Rattle.solutions.specs.Solutions.{advancedPieces, transferredPieces}
 use Rattle.wheel.specs.Wheel.{wheelOf}
 use Rattle.sight.specs.Sight.{sightOf}
 use Rattle.views.specs.Views.{wheelPieces, sightPieces}
+use Rattle.burn.specs.Burn.{burnOf}
+use Rattle.changes.specs.Changes.{burnPieces}
 
 -- the bytes that hold every line
 abbrev pub room : ℕ
@@ -47,6 +49,8 @@ replyOf (S xi) = answerPieces (sAnswer xi)
 replyOf (Trial asked lo hi below above k) = triedPieces (trialOf asked lo hi below above k)
 replyOf (Q.Look x) = lookedOf x
 replyOf (Q.Solve x) = solvedOf x
+replyOf (Burn body radius mu active ta passive tp t2 t3) =
+    burnPieces (burnOf (record { body = body; radius = radius; mu = mu }) active ta passive tp t2 t3)
 replyOf (Unread w) = unreadPieces w
 
 abbrev pub replyText : List ℕ → List ℕ

@@ -2,6 +2,7 @@
 ghost use Rattle.text.specs.Text.{InFront};
 ghost use Rattle.text.specs.Pieces.{Laid};
 ghost use Rattle.reply.specs.Replies.{room, solvedOf, lookedOf, replyOf, replyText};
+use burn::Centre;
 use forms::Look;
 use forms::Request;
 use forms::Solve;
@@ -82,6 +83,20 @@ fn answered(buf: &mut [u8], request: Request) -> usize
         } => answers::tell_trial(buf, iterator::trial(asked, lo, hi, below, above, k)),
         Request::Look(x) => looked(buf, x),
         Request::Solve(x) => solved(buf, x),
+        Request::Burn {
+            body,
+            radius,
+            mu,
+            active,
+            ta,
+            passive,
+            tp,
+            t2,
+            t3,
+        } => changes::tell_burn(
+            buf,
+            burn::constant_height(Centre { body, radius, mu }, active, ta, passive, tp, t2, t3),
+        ),
         Request::Unread(w) => columns::unread(buf, w),
     }
 }

@@ -14,6 +14,7 @@ use Rattle.forms.specs.declared.Request.the-variants as Q
 use Rattle.forms.specs.Forms.{Form, end, number, signed, whole, judgement, word, readBy}
 use Rattle.solves.specs.Solves.{solveForm}
 use Rattle.looks.specs.Looks.{wheelForm, sightForm}
+use Rattle.courses.specs.Courses.{cdhForm}
 
 -- ---- the table
 
@@ -45,7 +46,8 @@ routines =
     (word (ascii "s") sForm
     (word (ascii "trial") trialForm
     (word (ascii "wheel") wheelForm
-    (word (ascii "sight") sightForm (solveForm Q.Solve))))))
+    (word (ascii "sight") sightForm
+    (word (ascii "cdh") cdhForm (solveForm Q.Solve)))))))
 
 -- ---- a line
 

@@ -134,6 +134,9 @@ fn routine(name: &[u8], line: &[u8]) -> Request
     if words::is_word(name, b"sight") {
         return looks::sight(line);
     }
+    if words::is_word(name, b"cdh") {
+        return courses::cdh(line);
+    }
     solve(line)
 }
 

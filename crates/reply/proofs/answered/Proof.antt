@@ -5,6 +5,7 @@ use mir.Facts.{toZ-ofZ}
 use borrow.Author.Needs.{needs}
 use Rattle.text.specs.Pieces.{end}
 use Rattle.answers.specs.Answers.{answerPieces, triedPieces}
+use Rattle.changes.specs.Changes.{burnPieces}
 use Rattle.reply.specs.Replies.{replyOf}
 use Rattle.reply.proofs.Fits.{laid-as}
 use Rattle.reply.proofs.answered.Statement.{statement}
@@ -64,6 +65,15 @@ solved-requires c κs = search needs
 enum-known-request-7 : tie.Need-enum-known-request-7
 enum-known-request-7 c = search needs
 
+constant-height-requires : tie.Need-constant-height-requires
+constant-height-requires c κs = search needs
+
+tell-burn-requires : tie.Need-tell-burn-requires
+tell-burn-requires c κs = search needs
+
+enum-known-request-8 : tie.Need-enum-known-request-8
+enum-known-request-8 c = search needs
+
 unread-requires : tie.Need-unread-requires
 unread-requires c κs = search needs
 
@@ -115,7 +125,21 @@ same-length-7 : tie.Need-same-length-7
 same-length-7 c = search needs
 
 returns-8 : tie.Need-returns-8
-returns-8 c = laid-as (ap replyOf (sym (c .before .before .before .before .before .request7 .given .1))) (c .before .before .unread .ensures)
+returns-8 c =
+    let g = c .before .before .before .before .before .before .request7 .given .0 in
+    let k = c .before .before .before .before .before .known-told7 .given in
+    let a = toZ-ofZ {w = w64} {z = g .1 .1 .1 .1 .0} (record { sfits = k .1 .1 .1 .1 .0 .1 }) in
+    let p = toZ-ofZ {w = w64} {z = g .1 .1 .1 .1 .1 .1 .0} (record { sfits = k .1 .1 .1 .1 .1 .1 .0 .1 }) in
+    let t = toZ-ofZ {w = w64} {z = g .1 .1 .1 .1 .1 .1 .1 .0} (record { sfits = k .1 .1 .1 .1 .1 .1 .1 .0 .1 }) in
+    let u = toZ-ofZ {w = w64} {z = g .1 .1 .1 .1 .1 .1 .1 .1 .0} (record { sfits = k .1 .1 .1 .1 .1 .1 .1 .1 .0 .1 }) in
+    let h = rw (a, p, t, u) at (c .before .before .before .constant-height .ensures) in
+    laid-as (ap burnPieces h ∙ ap replyOf (sym (c .before .before .before .before .before .before .request7 .given .1))) (c .before .before .tell-burn .ensures)
+
+same-length-8 : tie.Need-same-length-8
+same-length-8 c = search needs
+
+returns-9 : tie.Need-returns-9
+returns-9 c = laid-as (ap replyOf (sym (c .before .before .before .before .before .request8 .given .1))) (c .before .before .unread .ensures)
 
 pub answered-spec : {M : Type 1} → statement M
 answered-spec =
@@ -139,6 +163,9 @@ answered-spec =
     enum-known-request-6
     solved-requires
     enum-known-request-7
+    constant-height-requires
+    tell-burn-requires
+    enum-known-request-8
     unread-requires
     returns
     same-length
@@ -154,4 +181,6 @@ answered-spec =
     same-length-6
     returns-7
     same-length-7
-    returns-8)
+    returns-8
+    same-length-8
+    returns-9)

@@ -77,11 +77,23 @@ sight-requires c κs = search needs
 returns-6 : tie.Need-returns-6
 returns-6 c = c .sight .ensures ∙ sym (by-word 0 _ _ _ _ (c .before .before .before .before .before .before .before .before .before .before .before .before .before .before .before .before .before .before .before .before .before .pre) (c .before .before .before .before .before .before .before .before .before .before .before .before .before .before .before .before .before .is-word .ensures) (c .before .before .before .before .before .before .before .before .before .before .before .before .before .before .before .before .if1 .left) ∙ by-word 0 _ _ _ _ (c .before .before .before .before .before .before .before .before .before .before .before .before .before .before .before .before .before .before .before .before .before .pre) (c .before .before .before .before .before .before .before .before .before .before .before .before .before .before .is-word2 .ensures) (c .before .before .before .before .before .before .before .before .before .before .before .before .before .if2 .left) ∙ by-word 0 _ _ _ _ (c .before .before .before .before .before .before .before .before .before .before .before .before .before .before .before .before .before .before .before .before .before .pre) (c .before .before .before .before .before .before .before .before .before .before .before .is-word3 .ensures) (c .before .before .before .before .before .before .before .before .before .before .if3 .left) ∙ by-word 0 _ _ _ _ (c .before .before .before .before .before .before .before .before .before .before .before .before .before .before .before .before .before .before .before .before .before .pre) (c .before .before .before .before .before .before .before .before .is-word4 .ensures) (c .before .before .before .before .before .before .before .if4 .left) ∙ by-word 0 _ _ _ _ (c .before .before .before .before .before .before .before .before .before .before .before .before .before .before .before .before .before .before .before .before .before .pre) (c .before .before .before .before .before .is-word5 .ensures) (c .before .before .before .before .if5 .left) ∙ by-word 0 _ _ _ _ (c .before .before .before .before .before .before .before .before .before .before .before .before .before .before .before .before .before .before .before .before .before .pre) (c .before .before .is-word6 .ensures) (c .before .if6 .taken))
 
+slice-aggregate-is-word-7 : tie.Need-slice-aggregate-is-word-7
+slice-aggregate-is-word-7 c = search needs
+
+is-word-requires-7 : tie.Need-is-word-requires-7
+is-word-requires-7 c κs = search needs
+
+cdh-requires : tie.Need-cdh-requires
+cdh-requires c κs = search needs
+
+returns-7 : tie.Need-returns-7
+returns-7 c = c .cdh .ensures ∙ sym (by-word 0 _ _ _ _ (c .before .before .before .before .before .before .before .before .before .before .before .before .before .before .before .before .before .before .before .before .before .before .before .before .pre) (c .before .before .before .before .before .before .before .before .before .before .before .before .before .before .before .before .before .before .before .before .is-word .ensures) (c .before .before .before .before .before .before .before .before .before .before .before .before .before .before .before .before .before .before .before .if1 .left) ∙ by-word 0 _ _ _ _ (c .before .before .before .before .before .before .before .before .before .before .before .before .before .before .before .before .before .before .before .before .before .before .before .before .pre) (c .before .before .before .before .before .before .before .before .before .before .before .before .before .before .before .before .before .is-word2 .ensures) (c .before .before .before .before .before .before .before .before .before .before .before .before .before .before .before .before .if2 .left) ∙ by-word 0 _ _ _ _ (c .before .before .before .before .before .before .before .before .before .before .before .before .before .before .before .before .before .before .before .before .before .before .before .before .pre) (c .before .before .before .before .before .before .before .before .before .before .before .before .before .before .is-word3 .ensures) (c .before .before .before .before .before .before .before .before .before .before .before .before .before .if3 .left) ∙ by-word 0 _ _ _ _ (c .before .before .before .before .before .before .before .before .before .before .before .before .before .before .before .before .before .before .before .before .before .before .before .before .pre) (c .before .before .before .before .before .before .before .before .before .before .before .is-word4 .ensures) (c .before .before .before .before .before .before .before .before .before .before .if4 .left) ∙ by-word 0 _ _ _ _ (c .before .before .before .before .before .before .before .before .before .before .before .before .before .before .before .before .before .before .before .before .before .before .before .before .pre) (c .before .before .before .before .before .before .before .before .is-word5 .ensures) (c .before .before .before .before .before .before .before .if5 .left) ∙ by-word 0 _ _ _ _ (c .before .before .before .before .before .before .before .before .before .before .before .before .before .before .before .before .before .before .before .before .before .before .before .before .pre) (c .before .before .before .before .before .is-word6 .ensures) (c .before .before .before .before .if6 .left) ∙ by-word 0 _ _ _ _ (c .before .before .before .before .before .before .before .before .before .before .before .before .before .before .before .before .before .before .before .before .before .before .before .before .pre) (c .before .before .is-word7 .ensures) (c .before .if7 .taken))
+
 solve-requires : tie.Need-solve-requires
 solve-requires c κs = search needs
 
-returns-7 : tie.Need-returns-7
-returns-7 c = c .solve .ensures ∙ sym (by-word 0 _ _ _ _ (c .before .before .before .before .before .before .before .before .before .before .before .before .before .before .before .before .before .before .before .before .before .pre) (c .before .before .before .before .before .before .before .before .before .before .before .before .before .before .before .before .before .is-word .ensures) (c .before .before .before .before .before .before .before .before .before .before .before .before .before .before .before .before .if1 .left) ∙ by-word 0 _ _ _ _ (c .before .before .before .before .before .before .before .before .before .before .before .before .before .before .before .before .before .before .before .before .before .pre) (c .before .before .before .before .before .before .before .before .before .before .before .before .before .before .is-word2 .ensures) (c .before .before .before .before .before .before .before .before .before .before .before .before .before .if2 .left) ∙ by-word 0 _ _ _ _ (c .before .before .before .before .before .before .before .before .before .before .before .before .before .before .before .before .before .before .before .before .before .pre) (c .before .before .before .before .before .before .before .before .before .before .before .is-word3 .ensures) (c .before .before .before .before .before .before .before .before .before .before .if3 .left) ∙ by-word 0 _ _ _ _ (c .before .before .before .before .before .before .before .before .before .before .before .before .before .before .before .before .before .before .before .before .before .pre) (c .before .before .before .before .before .before .before .before .is-word4 .ensures) (c .before .before .before .before .before .before .before .if4 .left) ∙ by-word 0 _ _ _ _ (c .before .before .before .before .before .before .before .before .before .before .before .before .before .before .before .before .before .before .before .before .before .pre) (c .before .before .before .before .before .is-word5 .ensures) (c .before .before .before .before .if5 .left) ∙ by-word 0 _ _ _ _ (c .before .before .before .before .before .before .before .before .before .before .before .before .before .before .before .before .before .before .before .before .before .pre) (c .before .before .is-word6 .ensures) (c .before .if6 .left))
+returns-8 : tie.Need-returns-8
+returns-8 c = c .solve .ensures ∙ sym (by-word 0 _ _ _ _ (c .before .before .before .before .before .before .before .before .before .before .before .before .before .before .before .before .before .before .before .before .before .before .before .before .pre) (c .before .before .before .before .before .before .before .before .before .before .before .before .before .before .before .before .before .before .before .before .is-word .ensures) (c .before .before .before .before .before .before .before .before .before .before .before .before .before .before .before .before .before .before .before .if1 .left) ∙ by-word 0 _ _ _ _ (c .before .before .before .before .before .before .before .before .before .before .before .before .before .before .before .before .before .before .before .before .before .before .before .before .pre) (c .before .before .before .before .before .before .before .before .before .before .before .before .before .before .before .before .before .is-word2 .ensures) (c .before .before .before .before .before .before .before .before .before .before .before .before .before .before .before .before .if2 .left) ∙ by-word 0 _ _ _ _ (c .before .before .before .before .before .before .before .before .before .before .before .before .before .before .before .before .before .before .before .before .before .before .before .before .pre) (c .before .before .before .before .before .before .before .before .before .before .before .before .before .before .is-word3 .ensures) (c .before .before .before .before .before .before .before .before .before .before .before .before .before .if3 .left) ∙ by-word 0 _ _ _ _ (c .before .before .before .before .before .before .before .before .before .before .before .before .before .before .before .before .before .before .before .before .before .before .before .before .pre) (c .before .before .before .before .before .before .before .before .before .before .before .is-word4 .ensures) (c .before .before .before .before .before .before .before .before .before .before .if4 .left) ∙ by-word 0 _ _ _ _ (c .before .before .before .before .before .before .before .before .before .before .before .before .before .before .before .before .before .before .before .before .before .before .before .before .pre) (c .before .before .before .before .before .before .before .before .is-word5 .ensures) (c .before .before .before .before .before .before .before .if5 .left) ∙ by-word 0 _ _ _ _ (c .before .before .before .before .before .before .before .before .before .before .before .before .before .before .before .before .before .before .before .before .before .before .before .before .pre) (c .before .before .before .before .before .is-word6 .ensures) (c .before .before .before .before .if6 .left) ∙ by-word 0 _ _ _ _ (c .before .before .before .before .before .before .before .before .before .before .before .before .before .before .before .before .before .before .before .before .before .before .before .before .pre) (c .before .before .is-word7 .ensures) (c .before .if7 .left))
 
 pub routine-spec : {M : Type 1} → statement M
 routine-spec =
@@ -111,5 +123,9 @@ routine-spec =
     is-word-requires-6
     sight-requires
     returns-6
+    slice-aggregate-is-word-7
+    is-word-requires-7
+    cdh-requires
+    returns-7
     solve-requires
-    returns-7)
+    returns-8)
