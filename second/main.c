@@ -36,6 +36,7 @@ static int run_bench(const char *name, uint64_t count)
 static int help(void)
 {
     fputs("second desk                      a line in, a line out\n"
+          "second settings FILE WORD..      list, show K, store BODY MU RADIUS CLOSED FAIR, back K\n"
           "second list [FILE]               the listing of a session\n"
           "second show [FILE]               a session as text\n"
           "second write [--replace] FILE    a session of the text on standard input\n"
@@ -55,6 +56,8 @@ int main(int words, char **word)
     uint64_t b = words > 3 ? strtoull(word[3], NULL, 10) : 0;
     if (strcmp(what, "desk") == 0 && words == 2)
         return desk();
+    if (strcmp(what, "settings") == 0 && words > 3)
+        return settings_program(words - 2, word + 2);
     if (strcmp(what, "list") == 0 && words <= 3)
         return list(word[2]);
     if (strcmp(what, "show") == 0 && words <= 3)

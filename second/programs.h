@@ -2,6 +2,8 @@
 #ifndef PROGRAMS_H
 #define PROGRAMS_H
 
+#include "settings.h"
+
 #include <stdbool.h>
 #include <stdint.h>
 
@@ -10,6 +12,10 @@ int list(const char *name);
 int show(const char *name);
 int write_session(const char *name, bool replace);
 int watch(void);
+int settings_program(int words, char **word); /* FILE and what behind it */
+
+/* The settings of a file that is there; says why not. */
+bool settings_of(const char *name, settings *s);
 
 void make_requests(uint64_t seed, uint64_t count);
 int make_sessions(uint64_t seed, uint64_t count, const char *folder);

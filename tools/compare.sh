@@ -95,6 +95,12 @@ heights() {
     python3 tools/coelliptic.py "${start[*]} ${program[desk]}" 1000 "$seed"
 }
 
+# Settings stored, shown and gone back to, on whole and damaged files.
+settings() {
+    ready history
+    python3 tools/settings.py ./cabin "$second" 12 "$seed"
+}
+
 need make make
 need gcc gcc libc6-dev
 need python3 python3
