@@ -60,13 +60,14 @@ returns-4 c =
     let e = d .before .before in
     let s = e .before .before .before .before .before in
     let w = toZ-ofZ {w = w64} {z = s .args .time} (s .fits .time) in
-    simp
-    (eq-eqb (s .args .a .body) (s .args .b .body) (e .before .before .if1 .left),
+    simp (
+      eq-eqb (s .args .a .body) (s .args .b .body) (e .before .before .if1 .left),
       sym (first-far (e .before)) ∙ e .if2 .left,
       sym (second-far (d .before)) ∙ d .if3 .left,
       c .meet .ensures,
       c .before .before .fly .ensures ∙ ap (flownOf (s .args .mu) (s .args .a)) w,
-      c .before .fly2 .ensures ∙ ap (flownOf (s .args .mu) (s .args .b)) w)
+      c .before .fly2 .ensures ∙ ap (flownOf (s .args .mu) (s .args .b)) w,
+    )
 
 pub fly-both-spec : {M : Type 1} → statement M
 fly-both-spec =

@@ -37,11 +37,12 @@ returns-3 c =
     let q = c .before .before in
     let p = q .before .before .before in
     let s = p .before .before in
-    simp
-    (p .x .given .1,
+    simp (
+      p .x .given .1,
       q .y .given .1,
       c .fly-both .ensures
-      ∙ ap (λ (z : ℤ). bothOf (s .args .mu) (p .x .given .0 .0) (q .y .given .0 .0) z) (toZ-ofZ {w = w64} {z = s .args .time} (s .fits .time)))
+          ∙ ap (λ (z : ℤ). bothOf (s .args .mu) (p .x .given .0 .0) (q .y .given .0 .0) z) (toZ-ofZ {w = w64} {z = s .args .time} (s .fits .time)),
+    )
 
 pub pair-from-spec : {M : Type 1} → statement M
 pair-from-spec =
