@@ -6,5 +6,6 @@ pub use day::Day;
 pub use day::day_of;
 pub use line::Made;
 pub use line::heading;
+pub use line::name;
 pub use line::record_line;
 pub use line::refused_line;

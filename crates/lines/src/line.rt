@@ -52,7 +52,8 @@ pub fn refused_line(buf: &mut [u8], number: u8, at: u64) -> Made
     Made::Line(e)
 }
 
-fn name(buf: &mut [u8], at: usize, k: Kind) -> usize
+// The name of a kind.
+pub fn name(buf: &mut [u8], at: usize, k: Kind) -> usize
     ensures { λ r. ⌜ Put (now (buf .entry)) at (nameOf k) (now (buf .exit)) r ⌝ }
 {
     match k {
