@@ -4,7 +4,7 @@ use native.Mathlib.Omega.{arith}
 use mathlib.Core.Path.{_≡_, refl, sym, ap, _∙_}
 use mathlib.Core.List.{List, [], _∷_, _++_}
 use mathlib.Core.Bool.{Bool, true, false, cond}
-use lib.ListN.{length, drop}
+use lib.ListN.{length, drop, length-append}
 use lib.Dec.{ltb}
 use Rattle.flight.specs.declared.Mu.{Mu}
 use Rattle.text.specs.Pieces.{concat, Laid}
@@ -25,6 +25,7 @@ made {d} {e} {r} xs next p h k l =
   where
     nought : (n : ℕ) → 0 + n ≡ n
     nought n = omega arith
+
     room : (n m : ℕ) → n ≤ 512 → 512 ≤ m → 0 + n ≤ m
     room n m k h = omega arith
 
@@ -57,3 +58,25 @@ tell-long mu s next p {d} {e} {r} h f =
   where
     same : (r : Told) (n : ℕ) (x : Next) (p : Replay) → r .length ≡ n → r .next ≡ x → r .replay ≡ p → r ≡ record { length = n; next = x; replay = p }
     same r n x p a b c = ap (λ (m : ℕ). told m (r .next) (r .replay)) a ∙ ap (λ (y : Next). told n y (r .replay)) b ∙ ap (told n x) c
+
+-- a line that was made lies within the buffer, and what comes next is the step's
+pub record Inside (mu : Mu) (s : List ℕ) (next : Next) (p : Replay) (e : List ℕ) (t : Told) : Type 0 where
+  pub within : t .length ≤ length e
+  pub after : t .next ≡ stepOf mu s next p .next
+
+pub line-inside : {mu : Mu} {s : List ℕ} {next : Next} {p : Replay} {d e : List ℕ} {t : Told} → Telling mu s next p d e (T.Line t) → Inside mu s next p e t
+line-inside {mu} {s} {next} {p} {d} {e} {t} f = go (ltb (length d) 512) (f .answer) (f .buffer)
+  where
+    zero-one : _≡_ {A = ℕ} 0 1 → ⊥
+    zero-one z = omega arith
+
+    go : (b : Bool) → T.Line t ≡ cond b (T.Refused 15) (T.Line (told (length (stepOf mu s next p .line)) (stepOf mu s next p .next) (stepOf mu s next p .replay)))
+        → e ≡ cond b d (stepOf mu s next p .line ++ drop (length (stepOf mu s next p .line)) d) → Inside mu s next p e t
+    go true a b = let z : _≡_ {A = ℕ} 0 1 = cc in absurd (zero-one z)
+    go false a b =
+        let x = stepOf mu s next p .line in
+        let q : t ≡ told (length x) (stepOf mu s next p .next) (stepOf mu s next p .replay) = cc in
+        record {
+          within = omega (arith, ap (λ (y : Told). y .length) q, ap length b, length-append x (drop (length x) d));
+          after = ap (λ (y : Told). y .next) q;
+        }

@@ -23,18 +23,21 @@ fn main() {
         return;
     }
     if count != 4 {
-        io::write_all(STDERR_FILENO, b"refly: a file, or a file and mu of the earth and the moon\n");
+        io::write_all(
+            STDERR_FILENO,
+            b"refly: a file, or a file and mu of the earth and the moon\n",
+        );
         return;
     }
     match number(2) {
         Number::Unread => {
             io::write_all(STDERR_FILENO, b"refly: mu of the earth is not a number\n");
         }
-        Number::Value(earth) => match number(3) {
+        Number::Read(earth) => match number(3) {
             Number::Unread => {
                 io::write_all(STDERR_FILENO, b"refly: mu of the moon is not a number\n");
             }
-            Number::Value(moon) => open(Mu { earth, moon }),
+            Number::Read(moon) => open(Mu { earth, moon }),
         },
     }
 }
