@@ -101,6 +101,14 @@ settings() {
     python3 tools/settings.py ./cabin "$second" 12 "$seed"
 }
 
+# Sessions flown again, with the usual constants, with others, and by settings.
+flights() {
+    echo "40 flights and 20 sessions flown again, seed $seed"
+    ready refly
+    ready history
+    python3 tools/replay.py ./cabin "$second" 40 "$seed"
+}
+
 need make make
 need gcc gcc libc6-dev
 need python3 python3
