@@ -1,6 +1,6 @@
 #include "session.h"
 
-#include "real.h"
+#include "bytes.h"
 
 enum { HEADER = 14, OFFSET_MAX = 840 };
 
@@ -26,20 +26,6 @@ int numbers_of(int kind)
 size_t length_of(int kind)
 {
     return kinds[kind].length;
-}
-
-static uint64_t little_endian(const uint8_t *at, int bytes)
-{
-    uint64_t n = 0;
-    for (int k = bytes; k-- > 0;)
-        n = n << 8 | at[k];
-    return n;
-}
-
-static void put_little_endian(uint8_t *at, int bytes, uint64_t n)
-{
-    for (int k = 0; k < bytes; k++)
-        at[k] = (uint8_t)(n >> 8 * k);
 }
 
 static bool offset_allowed(int64_t offset)

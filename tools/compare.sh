@@ -1,7 +1,8 @@
 #!/usr/bin/env bash
-# compare.sh stored | requests | stops | sessions | texts | parts: the linked programs against the second program (second/), on
-# the stored requests, on fresh ones, on solves stopped by a limit and gone on with, on fresh sessions, on sessions as text,
-# and on sessions that come in parts; `heights` holds the constant-height burn to its sense. The seed of the fresh ones is printed; CABIN_SEED=N makes the same again.
+# compare.sh PART: the linked programs against the second program (second/). Parts: stored, requests (the stored requests and
+# fresh ones), stops (solves stopped by a limit and gone on with), sessions, texts, parts (fresh sessions listed, as text, and in
+# parts), settings, flights (sessions flown again); heights holds the constant-height burn to its sense. The seed of the fresh
+# ones is printed; CABIN_SEED=N makes the same again.
 home=$(cd "$(dirname "${BASH_SOURCE[0]}")/.." && pwd -P)
 . "$home/tools/front.sh"
 cd "$home"
@@ -93,6 +94,20 @@ parts() {
 heights() {
     ready desk
     python3 tools/coelliptic.py "${start[*]} ${program[desk]}" 1000 "$seed"
+}
+
+# Settings stored, shown and gone back to, on whole and damaged files.
+settings() {
+    ready history
+    python3 tools/settings.py ./cabin "$second" 12 "$seed"
+}
+
+# Sessions flown again, with the usual constants, with others, and by settings.
+flights() {
+    echo "40 flights and 20 sessions flown again, seed $seed"
+    ready refly
+    ready history
+    python3 tools/replay.py ./cabin "$second" 40 "$seed"
 }
 
 need make make

@@ -157,6 +157,24 @@ run_stream() { # NAME [WORD..]
     case $last in 'refused '*) return 1 ;; esac
 }
 
+# Flies a session again and passes its lines on as they come. Where they go to a file and someone watches standard error,
+# which is then open as `watch`, every hundredth line is told there. Answers 1 where the reader refused a record.
+run_replay() { # FILE [EARTH MOON]
+    local watched=0
+    [ -t 1 ] || [ ! -t "$watch" ] || watched=1
+    run refly "$@" | {
+        line='' refused=0 k=0
+        while IFS= read -r line; do
+            printf '%s\n' "$line" || exit 2
+            case $line in 'refused '*) refused=1 ;; esac
+            k=$((k + 1))
+            [ "$watched" -eq 0 ] || [ $((k % 100)) -ne 0 ] || printf 'cabin: %d lines\n' "$k" >&"$watch"
+        done
+        [ -z "$line" ] || { say "the last line was cut: $line"; exit 2; }
+        [ "$refused" -eq 0 ] || exit 1
+    }
+}
+
 # Does what COMMAND does, with its output as ours, and answers its status; what it says on standard error is in `said`.
 hear() { # COMMAND..
     local status=0 out

@@ -344,6 +344,24 @@ def store(file, body, *constants, **more):
     return front("settings", file, "store", str(body), *map(bits, constants), **more)
 
 
+@case("replay: mu by the settings' versions; what they refuse is refused ahead of any record")
+def _():
+    with tempfile.TemporaryDirectory() as room:
+        file = pathlib.Path(room) / "settings"
+        file.write_bytes(version(1, *EARTH)[0] + version(2, *MOON)[0])
+        flown = front("replay", SAMPLE)
+        assert flown[0] == 0 and flown[1].startswith(b"day cs vehicle kind result\n"), flown
+        hold(front("replay", SAMPLE, "--settings", file, "1", "2"), 0, flown[1])
+        hold(front("replay", SAMPLE, "--settings", file, "2", "1"), 1, b"refused 14\n", "nothing was flown")
+        hold(front("replay", SAMPLE, "--settings", file, "1", "3"), 1, b"refused 23\n", "nothing was flown")
+        hold(front("replay", SAMPLE, "--settings", file, "3", "x"), 2, b"", "cannot be read")
+        hold(front("replay", SAMPLE, "--settings", room, "1", "2"), 2, b"", "cannot be read")
+        hold(front("replay", SAMPLE, "--sets", file, "1", "2"), 2, b"", "usage")
+        hold(front("replay", SAMPLE, "1"), 2, b"", "usage")
+        file.write_bytes(file.read_bytes()[1:])
+        hold(front("replay", SAMPLE, "--settings", file, "1", "2"), 1, b"refused 30\n", "nothing was flown")
+
+
 @case("settings: stored, listed, shown, gone back to; a file that is not there has no version")
 def _():
     with tempfile.TemporaryDirectory() as room:

@@ -156,6 +156,91 @@ def night():
     ])
 
 
+MU_MOON = 490_277_800.0
+MOON = 1_738_090.0
+
+
+def circling(radius, angle):
+    """A state on a circle about the moon, at an angle from the x axis."""
+    speed = math.sqrt(MU_MOON / radius)
+    return radius * math.cos(angle), radius * math.sin(angle), 0.0, -speed * math.sin(angle), speed * math.cos(angle), 0.0
+
+
+def flown(state, cs):
+    """A state some cs later: the universal variable by Newton's rule."""
+    x, y, _, u, v, _ = state
+    r, sigma, root = math.hypot(x, y), x * u + y * v, math.sqrt(MU_MOON)
+    alpha = 2 / r - (u * u + v * v) / MU_MOON
+    chi = root * cs * alpha
+    for _ in range(60):
+        psi = chi * chi * alpha
+        c, s = (1 - math.cos(math.sqrt(psi))) / psi, (math.sqrt(psi) - math.sin(math.sqrt(psi))) / math.sqrt(psi)**3
+        now = chi * chi * c + sigma / root * chi * (1 - psi * s) + r * (1 - psi * c)
+        chi += (root * cs - chi**3 * s - sigma / root * chi * chi * c - r * chi * (1 - psi * s)) / now
+    f, g = 1 - chi * chi / r * c, cs - chi**3 / root * s
+    a, b = f * x + g * u, f * y + g * v
+    far = math.hypot(a, b)
+    df, dg = root / (far * r) * chi * (psi * s - 1), 1 - chi * chi / far * c
+    return a, b, 0.0, df * x + dg * u, df * y + dg * v, 0.0
+
+
+def rendezvous():
+    """Vehicle 1 comes up from a low orbit about the moon to vehicle 0: a height adjustment, the constant-height burn half a turn
+    later, and the intercept when the lead is right; marks between them, a few metres off. Then a burn that is too large, a mark
+    back in time, and vehicle 0 set about the earth."""
+    high, low, mid = MOON + 111_120.0, MOON + 18_520.0, MOON + 83_340.0
+    period = 2 * math.pi * math.sqrt(high**3 / MU_MOON)
+    half = lambda a, b: math.pi * math.sqrt(((a + b) / 2)**3 / MU_MOON)
+    push = lambda a, b: math.sqrt(2 * MU_MOON / a - 2 * MU_MOON / (a + b)) - math.sqrt(MU_MOON / a)
+    rate = lambda a: math.sqrt(MU_MOON / a**3)
+    first = 30 * MINUTE
+    second = first + round(half(low, mid))
+    lead = math.pi * (1 - half(mid, high) / (period / 2))
+    third = second + 40 * MINUTE
+    last = third + round(half(mid, high))
+    angle = rate(low) * first + math.pi + rate(mid) * (third - second)
+    target, chaser = circling(high, angle + lead - rate(high) * third), circling(low, 0.0)
+    parts = [record(STATE, 0, 1, 0, *target), record(STATE, 1, 1, 0, *chaser)]
+    time, at = 0, chaser
+
+    def mark(now, noise):
+        a, b = flown(target, now), flown(at, now - time)
+        parts.append(record(MARK, 1, 0, now, math.dist(a[:3], b[:3]) + noise, 0.0))
+
+    def burn(now, speed):
+        nonlocal time, at
+        here = flown(at, now - time)
+        size = math.hypot(here[3], here[4])
+        change = speed * here[3] / size, speed * here[4] / size
+        parts.append(record(BURN, 1, 0, now, *change, 0.0))
+        at, time = (*here[:3], here[3] + change[0], here[4] + change[1], 0.0), now
+
+    mark(15 * MINUTE, 3.0)
+    burn(first, push(low, mid))
+    mark(first + 20 * MINUTE, -5.0)
+    burn(second, -push(mid, low))
+    mark(second + 20 * MINUTE, 2.5)
+    burn(third, push(mid, high))
+    mark(third + 25 * MINUTE, -1.5)
+    mark(last, 4.0)
+    parts += [
+        record(BURN, 1, 0, last, 130.0, 0.0, 0.0),
+        record(MARK, 0, 0, last - 10 * MINUTE, 9_000.0, 0.0),
+        record(STATE, 0, 0, last, 6_700_000.0, 0.0, 0.0, 0.0, 77.1, 0.0),
+        record(MARK, 0, 0, last, 0.0, 0.0),
+    ]
+    return b''.join(parts)
+
+
+def low():
+    """A vehicle that falls past the moon's centre: within row 9's range where the first burn comes, and under row 3's there."""
+    return b''.join([
+        record(STATE, 0, 1, 0, 1.85e6, 0.0, 0.0, 0.0, 2.0, 0.0),
+        record(BURN, 0, 0, 124_500, 0.0, 0.0, 0.0),
+        record(BURN, 0, 0, 124_600, 0.0, 0.0, 0.0),
+    ])
+
+
 def files():
     """The files that this script writes, with their contents."""
     whole = sample()
@@ -165,6 +250,9 @@ def files():
         'samples/session.bin': whole,
         'samples/damaged.bin': damaged(),
         'samples/night.bin': night(),
+        'samples/rendezvous.bin': rendezvous(),
+        'samples/low.bin': low(),
+        'crates/refly/data/session': refused,
         'crates/listing/data/session': refused,
         'crates/listing/stdout': listing(refused),
         'crates/show/stdin': refused,

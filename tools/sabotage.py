@@ -9,9 +9,12 @@ import random
 import shutil
 import subprocess
 import sys
+import tempfile
 
 sys.path.insert(0, str(pathlib.Path(__file__).parent))
 import records
+import replay
+import settings
 
 ROOT = pathlib.Path(__file__).resolve().parent.parent
 ROOM = ROOT / "target" / "sabotage"
@@ -174,6 +177,52 @@ WATCHED = [
 ]
 
 
+SETTINGS = [
+    ("T-11: a part of a version let in", "settings.c", "s->used % VERSION_LENGTH != 0 || ", ""),
+    ("T-11: versions in any order let in", "settings.c", "little_endian(at + 4, 4) == number", "(number > 0 || little_endian(at + 4, 4) == number)"),
+    ("T-11: the number's low bytes alone looked at", "settings.c", "little_endian(at + 4, 4) == number", "little_endian(at + 4, 1) == number"),
+    ("T-11: the three zero bytes not tested", "settings.c", "\n           && little_endian(at + 4, 4) == number && little_endian(at + 9, 3) == 0", "\n           && little_endian(at + 4, 4) == number"),
+    ("T-11: the kind not tested", "settings.c", " && little_endian(at + 2, 2) == VERSION_KIND", ""),
+    ("T-11: the length not tested", "settings.c", "little_endian(at, 2) == VERSION_LENGTH && ", ""),
+    ("T-11: stored fields not tested", "settings.c", "    return f.number == 0 && little", "    return little"),
+    ("T-11: the fair fraction may be over 1", "settings.c", "0 <= v->fair && v->fair <= 1", "0 <= v->fair"),
+    ("T-11: `<` for `≤` of the fractions", "settings.c", "v->closed <= v->fair", "v->closed < v->fair"),
+    ("T-11: a radius of 0 let in", "tests.c", "0 < radius && radius", "0 <= radius && radius"),
+    ("T-11: a radius of 2^29 let in", "tests.c", "radius < 0x1p29", "radius <= 0x1p29"),
+    ("T-11: 14 ahead of 22", "settings.c", "    must(f, 0 <= v->closed", "    body_test(f, v->body);\n    must(f, 0 <= v->closed"),
+    ("T-11: 2 ahead of 1", "settings.c", "    must_be_finite(f, \"mu\", v->mu);\n", "    mu_row(f, v->mu);\n    must_be_finite(f, \"mu\", v->mu);\n"),
+    ("T-11: 24 ahead of the version's own tests", "settings.c", "    version_tests(&f, v);\n    return f.number", "    if (last.number == VERSIONS_MAX)\n        return refused(24);\n    version_tests(&f, v);\n    return f.number"),
+    ("T-11: the version's own tests ahead of 30", "settings.c", "    if (last.refused)\n        return last;\n    version_tests(&f, v);\n", "    version_tests(&f, v);\n    if (last.refused && !f.number)\n        return last;\n"),
+    ("T-11: 24 ahead of 23", "settings.c", "    return old.refused ? old : put_behind", "    if (latest(s).number == VERSIONS_MAX)\n        return refused(24);\n    return old.refused ? old : put_behind"),
+    ("T-11: version 0 let in", "settings.c", "if (number < 1 || number > last.number)", "if (number > last.number)"),
+    ("T-11: going back gives the old number", "settings.c", "put_behind(s, size, latest(s).number, &old.version)", "put_behind(s, size, number - 1, &old.version)"),
+    ("T-11: a body cut to a byte", "settings.c", "put_little_endian(at + 8, 4, v->body)", "put_little_endian(at + 8, 4, v->body & 0)"),
+    ("T-11: 01's fractions whatever the version", "desk.c", "    on->closed = named.version.closed;\n", ""),
+    ("T-11: the fractions exchanged", "desk.c", "    on->closed = named.version.closed;\n    on->fair = named.version.fair;\n", "    on->closed = named.version.fair;\n    on->fair = named.version.closed;\n"),
+]
+
+
+FLIGHTS = [
+    ("T-10: 20 for the mark's own vehicle alone", "replay.c", "!v[0].set || !v[1].set", "!v[r->vehicle].set"),
+    ("T-10: 21 not given", "replay.c", "v[0].body != v[1].body", "false"),
+    ("T-10: 21 ahead of 20", "replay.c", "    if (!v[0].set || !v[1].set)\n        return 20;\n    if (v[0].body != v[1].body)\n        return 21;\n", "    if (v[0].body != v[1].body)\n        return 21;\n    if (!v[0].set || !v[1].set)\n        return 20;\n"),
+    ("T-10: `≤` for `<` at a difference of 2^28", "replay.c", "difference > longest", "difference >= longest"),
+    ("T-10: 5 left to Kepler", "replay.c", "    return difference < -longest || difference > longest;", "    return difference > longest && difference < longest;"),
+    ("T-10: vehicle 1 advanced before 0", "replay.c", "    int refused = advanced(m, &v[0], r->time, &after[0]);\n    if (!refused)\n        refused = advanced(m, &v[1], r->time, &after[1]);\n", "    int refused = advanced(m, &v[1], r->time, &after[1]);\n    if (!refused)\n        refused = advanced(m, &v[0], r->time, &after[0]);\n"),
+    ("T-10: a refused mark changes vehicle 0", "replay.c", "    if (!refused)\n        refused = advanced(m, &v[1], r->time, &after[1]);\n", "    if (!refused)\n        v[0] = after[0], refused = advanced(m, &v[1], r->time, &after[1]);\n"),
+    ("T-10: a refused burn changes its vehicle", "replay.c", "    velocity_row(&f, after.at.v);\n    if (f.number)\n        return f.number;\n    *v = after;\n", "    velocity_row(&f, after.at.v);\n    *v = after;\n    if (f.number)\n        return f.number;\n"),
+    ("T-10: 4 not given", "replay.c", "    velocity_row(&f, after.at.v);\n", ""),
+    ("T-10: the burn's change taken off", "replay.c", "after.at.v = plus(after.at.v,", "after.at.v = minus(after.at.v,"),
+    ("T-10: recorded less computed", "replay.c", "length(minus(after[0].at.r, after[1].at.r)) - r->numbers[0]", "r->numbers[0] - length(minus(after[0].at.r, after[1].at.r))"),
+    ("T-10: no advance for a difference of 0", "replay.c", "    *to = (vehicle){ true, v->body, time, { a.r, a.v } };\n", "    *to = (vehicle){ true, v->body, time, { a.r, a.v } };\n    if (time == v->time)\n        return *to = *v, 0;\n"),
+    ("T-10: a mark leaves the vehicles where they were", "replay.c", "    v[0] = after[0];\n    v[1] = after[1];\n", ""),
+    ("T-10: the earth's mu for both", "replay.c", "m->mu[v->body]", "m->mu[0]"),
+    ("T-10: the body of the first state kept", "replay.c", "(vehicle){ true, r->byte, r->time", "(vehicle){ true, m->vehicles[r->vehicle].set ? m->vehicles[r->vehicle].body : r->byte, r->time"),
+    ("T-10: the settings' 14 ahead of 23", "replays.c", "        wrong_body |= v.version.body != (uint64_t)body;\n", "        wrong_body |= v.version.body != (uint64_t)body;\n        if (wrong_body)\n            return 14;\n"),
+    ("T-10: a refusal of the reader ends with 0", "replays.c", "    return refused != 0;\n", "    return refused > 1000;\n"),
+]
+
+
 def built(source):
     out = ROOM / "bin"
     subprocess.run(["make", "-s", "-C", source, "OPT=-O1", f"OUT={out}"], check=True)
@@ -226,6 +275,17 @@ def watched(program):
     return answers
 
 
+def stored(program):
+    """What becomes of some 70 files of settings, and what solves get by their versions."""
+    return [outcome for sequence in settings.sequences(40, 1) for outcome in settings.outcomes(str(program), sequence, ROOM)]
+
+
+def flown(program):
+    """What 150 sessions flown again give."""
+    with tempfile.TemporaryDirectory() as room:
+        return [replay.run(str(program), "replay", path, *words) for path, words in replay.flights(str(program), 100, 1, pathlib.Path(room))]
+
+
 def written(program, text):
     path = ROOM / "written"
     path.write_bytes(b"what stood there")
@@ -249,7 +309,7 @@ def main():
     source = ROOM / "second"
     shutil.copytree(ROOT / "second", source)
     unseen = 0
-    for slips, answers, heading in ((REQUESTS, requests, "answers that change"), (SESSIONS, sessions, "listings that change"), (TEXTS, texts, "texts that change"), (WATCHED, watched, "sessions in parts that change")):
+    for slips, answers, heading in ((REQUESTS, requests, "answers that change"), (SESSIONS, sessions, "listings that change"), (TEXTS, texts, "texts that change"), (WATCHED, watched, "sessions in parts that change"), (SETTINGS, stored, "commands about settings that change"), (FLIGHTS, flown, "sessions flown again that change")):
         slips = [slip for slip in slips if word in slip[0]]
         right = answers(built(source)) if slips else []
         print(f"\n| slip | {heading} |\n|---|---|")
