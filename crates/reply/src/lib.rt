@@ -95,15 +95,7 @@ fn answered(buf: &mut [u8], request: Request) -> usize
             t3,
         } => changes::tell_burn(
             buf,
-            burn::constant_height(
-                Centre { body, radius, mu },
-                active,
-                ta,
-                passive,
-                tp,
-                t2,
-                t3,
-            ),
+            burn::constant_height(Centre { body, radius, mu }, active, ta, passive, tp, t2, t3),
         ),
         Request::Unread(w) => columns::unread(buf, w),
     }
