@@ -9,7 +9,7 @@ use lib.Dec.{ltb, eqb}
 use lib.IntN.{ℤ}
 use lib.Ieee as Ieee
 use lib.Ieee.{Float, nan, inf, fin, binary64, up, down, round, isNan}
-use Rattle.real.specs.F64.{_⊖_, _<ᶠ_, _≤ᶠ_, f0, finite}
+use Rattle.real.specs.F64.{_⊖_, _≤ᶠ_, f0, finite}
 use Rattle.real.proofs.Bounds.{round-no-nan}
 use Rattle.vector.specs.declared.Vector.{Vector}
 use Rattle.vector.specs.declared.State.{State}
@@ -43,7 +43,6 @@ use Rattle.theta.specs.Theta as Theta
 use Rattle.theta.proofs.Laws.{theta-table}
 use Rattle.apsides.specs.declared.Apsides.{Apsides}
 use Rattle.apsides.specs.declared.Apsides.the-variants as Ap
-use Rattle.apsides.specs.declared.Shape.{Shape}
 use Rattle.apsides.specs.Apsides.{shapeOf, derivedRow, apsidesTests, distancesOf, answered, apsidesOf}
 use Rattle.apsides.specs.Apsides as ApsidesOf
 use Rattle.apsides.proofs.Laws as Apsides
