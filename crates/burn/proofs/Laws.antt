@@ -20,7 +20,7 @@ use Rattle.table.specs.declared.Test.{Test}
 use Rattle.table.specs.declared.Test.the-variants.{Passed, Failed}
 use Rattle.table.specs.Tests as Tests
 use Rattle.table.specs.Tests.{firstFailing, firstRow, tableOrder, applies, passes}
-use Rattle.table.proofs.Laws.{all-met, met-left, met-right}
+use Rattle.table.proofs.Laws.{all-met, met-left, met-right, first-row}
 use Rattle.rows.specs.Rows.{finiteInputs, muRow, positionRow, velocityComponents, stateRows}
 use Rattle.rows.proofs.Components.{Finite, velocity-finite}
 use Rattle.conic.specs.Conic.{straightRow}
@@ -40,7 +40,6 @@ use Rattle.reach.specs.Reach.{reachOf}
 use Rattle.theta.specs.declared.TransferTime.{TransferTime}
 use Rattle.theta.specs.declared.TransferTime.the-variants as Th
 use Rattle.theta.specs.Theta as Theta
-use Rattle.theta.proofs.Laws.{theta-table}
 use Rattle.apsides.specs.declared.Apsides.{Apsides}
 use Rattle.apsides.specs.declared.Apsides.the-variants as Ap
 use Rattle.apsides.specs.Apsides.{shapeOf, derivedRow, apsidesTests, distancesOf, answered, apsidesOf}
@@ -185,7 +184,7 @@ theta-other mu s sin cos n e h = go (firstFailing (Theta.thetaTests mu s sin cos
     go Passed p q = told-other s (reachOf (Theta.arcOf mu (Theta.sweepOf mu s sin cos))) n q
     go (Failed f) p q =
         row-other (Theta.thetaTests mu s sin cos (Theta.sweepOf mu s sin cos))
-        (sym (theta-table mu s sin cos) ∙ ap Tests.numberOf p ∙ same (f .number) n q ∙ h)
+        (sym (first-row tableOrder (Theta.thetaTests mu s sin cos (Theta.sweepOf mu s sin cos)) refl) ∙ ap Tests.numberOf p ∙ same (f .number) n q ∙ h)
 
 line-other : (mu : Float) (s : State) (g : Angle) → Other (inLineOf mu s g)
 unfolding inLineOf movedBy
