@@ -251,12 +251,12 @@ def sessions(program):
 
 
 def texts(program):
-    """300 sessions as text, and what becomes of 300 texts."""
+    """600 sessions as text, and what becomes of 600 texts."""
     folders = [ROOM / "shown", ROOM / "texts"]
     for folder, made in zip(folders, ("sessions", "texts")):
         if not folder.exists():
             folder.mkdir()
-            output(program, made, "1", "300", folder)
+            output(program, made, "1", "600", folder)
     return [output(program, "show", path) for path in sorted(folders[0].iterdir())] + [written(program, path) for path in sorted(folders[1].iterdir())]
 
 

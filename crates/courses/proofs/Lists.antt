@@ -1,5 +1,5 @@
 -- What a list of numbers gives the burn: a state at its end. Assumes nothing.
-use Prim.Native.Nat.{ℕ, _+_}
+use Prim.Native.Nat.{ℕ}
 use mathlib.Core.List.{List}
 use lib.ListN.{getD}
 use lib.IntN.{ℤ}

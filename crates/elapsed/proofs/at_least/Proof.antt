@@ -1,14 +1,7 @@
 -- `elapsed::at_least` meets its contract. Assumes nothing.
-use Prim.Native.Nat.{ℕ, _-_, _^_, _≤_, _<_}
-use native.Mathlib.Omega.{arith}
-use mathlib.Core.Path.{_≡_, sym, ap, _∙_, subst}
-use mathlib.Core.Bool.{Bool, cond}
+use Prim.Native.Nat.{ℕ, _-_}
+use mathlib.Core.Path.{_≡_, sym, ap, _∙_}
 use lib.Dec.{ltb, leb}
-use lib.IntN.{ℤ, natAbs, _-ℤ_}
-use lib.Signed.{mag}
-use lib.Ieee.{Float, binary64, ofInt}
-use mir.Syntax.{w64}
-use mir.Val.{SFits, toZ, ofZ}
 use mir.Facts.{toZ-ofZ}
 use Rattle.elapsed.specs.Elapsed.{raised, atLeast}
 use Rattle.elapsed.proofs.Raised.{least-earlier, least-later}

@@ -1,16 +1,15 @@
 -- `elapsed::between` meets its contract: a difference within 2^28 fits. Assumes nothing.
-use Prim.Native.Nat.{ℕ, _-_, _^_, _≤_, _<_}
+use Prim.Native.Nat.{ℕ, _^_, _≤_, _<_}
 use native.Mathlib.Omega.{arith}
 use mathlib.Core.Path.{_≡_, sym, ap, _∙_, subst}
 use mathlib.Core.Bool.{Bool, cond}
-use lib.Dec.{ltb, leb}
+use lib.Dec.{ltb}
 use lib.IntN.{ℤ, natAbs, _-ℤ_}
 use lib.Signed.{mag}
-use lib.Ieee.{Float, binary64, ofInt}
+use lib.Ieee.{binary64, ofInt}
 use mir.Syntax.{w64}
 use mir.Val.{SFits, toZ, ofZ}
 use mir.Facts.{toZ-ofZ}
-use Rattle.elapsed.specs.declared.Elapsed.{Elapsed}
 use Rattle.elapsed.specs.declared.Elapsed.the-variants.{Cs, TooLong}
 use Rattle.elapsed.specs.Elapsed.{raised, apartOf, elapsedOf}
 use Rattle.elapsed.proofs.Raised.{size-is, mag-size}
