@@ -11,7 +11,7 @@ use Rattle.vector.specs.Vectors.{positionOf, velocityOf, sumOf}
 use Rattle.table.specs.declared.Name.the-variants.{Velocity}
 use Rattle.table.specs.declared.Test.{Test}
 use Rattle.table.specs.declared.Test.the-variants.{Passed, Failed}
-use Rattle.table.specs.Tests.{firstFailing}
+use Rattle.table.specs.Tests.{firstFailing, allMeet}
 use Rattle.table.proofs.Laws.{all-met}
 use Rattle.rows.specs.Rows.{velocityComponents}
 use Rattle.rows.proofs.Components.{Finite, velocity-finite}
@@ -73,4 +73,16 @@ burned-came f d g h e = go (firstFailing (velocityComponents 4 Velocity (sumOf (
         let v = sumOf (velocityOf (f .state)) d in
         subst (Came f (f .time)) (same-flight (burntOf f d) g e)
         (record { time = refl; body = refl; state = record { r = h .r; v = velocity-finite 4 Velocity v (all-met (velocityComponents 4 Velocity v) k) } })
+    go (Failed c) k e = absurd (not-refused (c .number) g e)
+
+-- the velocity after a burn is in row 4's range
+pub burned-in-range : (f : Flight) (d : Vector) (g : Flight) → burnedOf f d ≡ F.To g → allMeet (velocityComponents 4 Velocity (velocityOf (g .state))) ≡ true
+unfolding burnedOf burnedBy
+burned-in-range f d g e = go (firstFailing (velocityComponents 4 Velocity (sumOf (velocityOf (f .state)) d))) refl e
+  where
+    go : (x : Test) → firstFailing (velocityComponents 4 Velocity (sumOf (velocityOf (f .state)) d)) ≡ x → burnedBy x (burntOf f d) ≡ F.To g
+        → allMeet (velocityComponents 4 Velocity (velocityOf (g .state))) ≡ true
+    go Passed k e =
+        subst (λ (x : Flight). allMeet (velocityComponents 4 Velocity (velocityOf (x .state))) ≡ true) (same-flight (burntOf f d) g e)
+        (all-met (velocityComponents 4 Velocity (sumOf (velocityOf (f .state)) d)) k)
     go (Failed c) k e = absurd (not-refused (c .number) g e)
