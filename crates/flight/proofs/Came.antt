@@ -6,15 +6,14 @@ use mathlib.Core.Bool.{Bool, true, false, cond}
 use lib.IntN.{ℤ, _-ℤ_}
 use lib.Ieee.{Float, binary64, ofInt}
 use Rattle.vector.specs.declared.Vector.{Vector}
-use Rattle.vector.specs.declared.State.{State}
-use Rattle.vector.specs.Vectors.{positionOf, velocityOf, sumOf}
+use Rattle.vector.specs.Vectors.{velocityOf, sumOf}
 use Rattle.table.specs.declared.Name.the-variants.{Velocity}
 use Rattle.table.specs.declared.Test.{Test}
 use Rattle.table.specs.declared.Test.the-variants.{Passed, Failed}
 use Rattle.table.specs.Tests.{firstFailing, allMeet}
 use Rattle.table.proofs.Laws.{all-met}
 use Rattle.rows.specs.Rows.{velocityComponents}
-use Rattle.rows.proofs.Components.{Finite, velocity-finite}
+use Rattle.rows.proofs.Components.{velocity-finite}
 use Rattle.kepler.proofs.Laws.{FiniteState}
 use Rattle.solve.specs.declared.Advanced.{Advanced}
 use Rattle.solve.specs.declared.Advanced.the-variants as Ad
@@ -22,7 +21,6 @@ use Rattle.solve.specs.Answers.{advanceOf, advancedNumber}
 use Rattle.solve.proofs.Finite.{advance-finite}
 use Rattle.flight.specs.declared.Mu.{Mu}
 use Rattle.flight.specs.declared.Flight.{Flight}
-use Rattle.flight.specs.declared.Flown.{Flown}
 use Rattle.flight.specs.declared.Flown.the-variants as F
 use Rattle.flight.specs.Flight.{muOf, tooFar, foundAs, flownOf, burntOf, burnedBy, burnedOf}
 

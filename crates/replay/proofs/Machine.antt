@@ -1,7 +1,7 @@
 -- The machine over a session: its parts one after another, and what is true of every state it holds. Assumes nothing.
-use mathlib.Core.Path.{_≡_, refl, sym, ap, subst}
+use mathlib.Core.Path.{_≡_, refl}
 use mathlib.Core.List.{List, [], _∷_, _++_}
-use mathlib.Core.Bool.{Bool, true, false, _&&_, cond, true≢false}
+use mathlib.Core.Bool.{Bool, true, false, _&&_, cond}
 use lib.Dec.{eqb}
 use Prim.Native.Nat.{ℕ}
 use Rattle.real.specs.F64.{finite}
