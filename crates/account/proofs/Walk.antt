@@ -2,8 +2,8 @@
 use Prim.Native.Nat.{ℕ, zero, suc, _+_, _-_, _≤_, _<_}
 use native.Mathlib.Omega.{arith}
 use mathlib.Core.Path.{_≡_, refl, sym, ap, _∙_}
-use mathlib.Core.List.{List, [], _∷_, _++_}
-use mathlib.Core.Bool.{true, false, true≢false}
+use mathlib.Core.List.{List, [], _++_}
+use mathlib.Core.Bool.{false, true≢false}
 use lib.ListN.{length}
 use Rattle.text.specs.Pieces.{concat}
 use Rattle.session.specs.declared.record.Record.{Record}

@@ -6,15 +6,14 @@ use mathlib.Core.Bool.{Bool, true, false, cond}
 use lib.IntN.{ℤ, _-ℤ_}
 use lib.Ieee.{Float, binary64, ofInt}
 use Rattle.vector.specs.declared.Vector.{Vector}
-use Rattle.vector.specs.declared.State.{State}
-use Rattle.vector.specs.Vectors.{positionOf, velocityOf, sumOf}
+use Rattle.vector.specs.Vectors.{velocityOf, sumOf}
 use Rattle.table.specs.declared.Name.the-variants.{Velocity}
 use Rattle.table.specs.declared.Test.{Test}
 use Rattle.table.specs.declared.Test.the-variants.{Passed, Failed}
-use Rattle.table.specs.Tests.{firstFailing}
+use Rattle.table.specs.Tests.{firstFailing, allMeet}
 use Rattle.table.proofs.Laws.{all-met}
 use Rattle.rows.specs.Rows.{velocityComponents}
-use Rattle.rows.proofs.Components.{Finite, velocity-finite}
+use Rattle.rows.proofs.Components.{velocity-finite}
 use Rattle.kepler.proofs.Laws.{FiniteState}
 use Rattle.solve.specs.declared.Advanced.{Advanced}
 use Rattle.solve.specs.declared.Advanced.the-variants as Ad
@@ -22,7 +21,6 @@ use Rattle.solve.specs.Answers.{advanceOf, advancedNumber}
 use Rattle.solve.proofs.Finite.{advance-finite}
 use Rattle.flight.specs.declared.Mu.{Mu}
 use Rattle.flight.specs.declared.Flight.{Flight}
-use Rattle.flight.specs.declared.Flown.{Flown}
 use Rattle.flight.specs.declared.Flown.the-variants as F
 use Rattle.flight.specs.Flight.{muOf, tooFar, foundAs, flownOf, burntOf, burnedBy, burnedOf}
 
@@ -73,4 +71,16 @@ burned-came f d g h e = go (firstFailing (velocityComponents 4 Velocity (sumOf (
         let v = sumOf (velocityOf (f .state)) d in
         subst (Came f (f .time)) (same-flight (burntOf f d) g e)
         (record { time = refl; body = refl; state = record { r = h .r; v = velocity-finite 4 Velocity v (all-met (velocityComponents 4 Velocity v) k) } })
+    go (Failed c) k e = absurd (not-refused (c .number) g e)
+
+-- the velocity after a burn is in row 4's range
+pub burned-in-range : (f : Flight) (d : Vector) (g : Flight) → burnedOf f d ≡ F.To g → allMeet (velocityComponents 4 Velocity (velocityOf (g .state))) ≡ true
+unfolding burnedOf burnedBy
+burned-in-range f d g e = go (firstFailing (velocityComponents 4 Velocity (sumOf (velocityOf (f .state)) d))) refl e
+  where
+    go : (x : Test) → firstFailing (velocityComponents 4 Velocity (sumOf (velocityOf (f .state)) d)) ≡ x → burnedBy x (burntOf f d) ≡ F.To g
+        → allMeet (velocityComponents 4 Velocity (velocityOf (g .state))) ≡ true
+    go Passed k e =
+        subst (λ (x : Flight). allMeet (velocityComponents 4 Velocity (velocityOf (x .state))) ≡ true) (same-flight (burntOf f d) g e)
+        (all-met (velocityComponents 4 Velocity (sumOf (velocityOf (f .state)) d)) k)
     go (Failed c) k e = absurd (not-refused (c .number) g e)

@@ -1,5 +1,4 @@
 -- An advance and a burn, case by case. Assumes nothing.
-use Prim.Native.Nat.{ℕ}
 use mathlib.Core.Path.{_≡_, ap, sym, subst}
 use mathlib.Core.Bool.{Bool, true, false, cond, not}
 use lib.Dec.{T, nltb→le}
@@ -18,7 +17,6 @@ use Rattle.rows.specs.Rows.{velocityComponents}
 use Rattle.solve.specs.Answers.{advanceOf}
 use Rattle.flight.specs.declared.Mu.{Mu}
 use Rattle.flight.specs.declared.Flight.{Flight}
-use Rattle.flight.specs.declared.Flown.{Flown}
 use Rattle.flight.specs.declared.Flown.the-variants as F
 use Rattle.flight.specs.Flight.{muOf, tooFar, foundAs, flownOf, burntOf, burnedBy, burnedOf}
 use Rattle.flight.proofs.Spans.{near-fits}

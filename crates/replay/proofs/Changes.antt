@@ -1,7 +1,7 @@
 -- What a record changes: a refused one nothing, a mark both vehicles or neither, a state and a burn no other vehicle than their own. Assumes nothing.
 use Prim.Native.Nat.{ℕ}
 use native.Mathlib.Omega.{arith}
-use mathlib.Core.Path.{_≡_, refl, sym, ap, _∙_}
+use mathlib.Core.Path.{_≡_, refl, sym, ap}
 use mathlib.Core.Logic.{_⊎_, inl, inr}
 use mathlib.Core.Bool.{Bool, true, false, cond, not, true≢false}
 use lib.Dec.{eqb}
@@ -16,11 +16,9 @@ use Rattle.flight.specs.declared.Flown.{Flown}
 use Rattle.flight.specs.declared.Flown.the-variants as F
 use Rattle.flight.specs.Flight.{tooFar, flownOf, offOf}
 use Rattle.flight.proofs.Came.{Came, flown-came}
-use Rattle.session.specs.Layout.{vehicleIn}
 use Rattle.replay.specs.declared.Vehicle.{Vehicle}
 use Rattle.replay.specs.declared.Vehicle.the-variants.{Unset, Set}
 use Rattle.replay.specs.declared.Replay.{Replay}
-use Rattle.replay.specs.declared.Answer.{Answer}
 use Rattle.replay.specs.declared.Answer.the-variants as A
 use Rattle.replay.specs.declared.Pair.{Pair}
 use Rattle.replay.specs.declared.Pair.the-variants as P

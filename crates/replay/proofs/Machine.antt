@@ -1,12 +1,15 @@
 -- The machine over a session: its parts one after another, and what is true of every state it holds. Assumes nothing.
-use mathlib.Core.Path.{_≡_, refl, sym, ap, subst}
+use mathlib.Core.Path.{_≡_, refl}
 use mathlib.Core.List.{List, [], _∷_, _++_}
-use mathlib.Core.Bool.{Bool, true, false, _&&_, cond, true≢false}
+use mathlib.Core.Bool.{Bool, true, false, _&&_, cond}
 use lib.Dec.{eqb}
 use Prim.Native.Nat.{ℕ}
 use Rattle.real.specs.F64.{finite}
 use Rattle.real.proofs.Tests.{and-0, and-1}
-use Rattle.rows.proofs.Components.{Finite}
+use Rattle.vector.specs.Vectors.{velocityOf}
+use Rattle.table.specs.declared.Name.the-variants.{Velocity}
+use Rattle.table.specs.Tests.{allMeet}
+use Rattle.rows.specs.Rows.{velocityComponents}
 use Rattle.kepler.proofs.Laws.{FiniteState}
 use Rattle.session.specs.declared.record.Record.{Record}
 use Rattle.session.specs.declared.record.Record.the-variants as R
@@ -18,7 +21,7 @@ use Rattle.flight.specs.declared.Flight.{Flight}
 use Rattle.flight.specs.declared.Flown.{Flown}
 use Rattle.flight.specs.declared.Flown.the-variants as F
 use Rattle.flight.specs.Flight.{flownOf}
-use Rattle.flight.proofs.Came.{not-refused, flown-came, burned-came}
+use Rattle.flight.proofs.Came.{not-refused, flown-came, burned-came, burned-in-range}
 use Rattle.replay.specs.declared.Vehicle.{Vehicle}
 use Rattle.replay.specs.declared.Vehicle.the-variants.{Unset, Set}
 use Rattle.replay.specs.declared.Replay.{Replay}
@@ -108,3 +111,15 @@ after-sound mu p (r ∷ rs) h k = after-sound mu (stepOf mu p r .replay) rs (ste
 
 pub session-sound : (mu : Mu) (rs : List Record) → Numbers rs → BothSound (afterOf mu nobody rs)
 session-sound mu rs k = after-sound mu nobody rs (record { v0 = tt; v1 = tt }) k
+
+-- ---- the velocity after a burn that is done is in row 4's range
+
+pub burn-in-range : (mu : Mu) (x : Vehicle) (r : BurnRecord) (g : Flight) → burnFrom mu x r ≡ F.To g
+    → allMeet (velocityComponents 4 Velocity (velocityOf (g .state))) ≡ true
+unfolding burnFrom burnThen
+burn-in-range mu Unset r g e = absurd (not-refused 20 g e)
+burn-in-range mu (Set f) r g e = go (flownOf mu f (r .time)) e
+  where
+    go : (x : Flown) → burnThen x (r .change) ≡ F.To g → allMeet (velocityComponents 4 Velocity (velocityOf (g .state))) ≡ true
+    go (F.To h) e = burned-in-range h (r .change) g e
+    go (F.Refused n) e = absurd (not-refused n g e)

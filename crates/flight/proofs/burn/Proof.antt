@@ -11,7 +11,6 @@ use Rattle.table.specs.declared.Name.the-variants.{Velocity}
 use Rattle.table.specs.Tests.{firstFailing}
 use Rattle.table.proofs.Laws.{first-failing}
 use Rattle.rows.specs.Rows.{velocityComponents}
-use Rattle.flight.specs.declared.Flown.{Flown}
 use Rattle.flight.specs.declared.Flown.the-variants as F
 use Rattle.flight.proofs.Flights.{burned-passed, burned-failed}
 use borrow.Author.Needs.{needs}

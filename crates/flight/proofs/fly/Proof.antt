@@ -1,13 +1,11 @@
 -- 5 for a difference that is too far; else the difference is exact, and Kepler takes it. Assumes nothing.
 use mathlib.Core.Path.{_≡_, sym, ap, _∙_}
-use mathlib.Core.Bool.{false}
 use borrow.Author.Needs.{sfits-of}
 use lib.IntN.{ℤ, _-ℤ_}
 use lib.Ieee.{Float, binary64, ofInt}
 use mir.Syntax.{w64}
 use mir.Val.{toZ, ofZ}
 use mir.Facts.{toZ-ofZ}
-use Rattle.solve.specs.declared.Advanced.{Advanced}
 use Rattle.solve.specs.Answers.{advanceOf}
 use Rattle.flight.specs.Flight.{muOf, tooFar, foundAs}
 use Rattle.flight.proofs.Flights.{span-fits, flown-far, flown-near}
