@@ -223,7 +223,7 @@ class Night:
         left = len(self.found.sessions) - len(results)
         every, cabins = [*results.values(), *self.gone()], self.found.cabins
         put(self.store.top / "report.txt", report.as_text(every, cabins, left, self.terms()).encode())
-        put(self.store.top / "report.html", page.as_html(every, cabins, left, self.terms(), self.store, self.mu).encode())
+        put(self.store.top / "report.html", page.as_html(every, cabins, left, self.terms(), self.store, self.runner.limit, self.mu).encode())
         put(self.store.top / "report.json", report.as_json(every, cabins).encode())
         show(f"{report.headline(every, cabins, left)}: {self.store.top / 'report.html'}")
         if self.found.closed:
