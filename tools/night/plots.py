@@ -7,10 +7,10 @@ from .verdict import number
 
 DAY = 8_640_000
 WIDTH, HEIGHT, LEFT, RIGHT, TOP, FOOT = 640, 220, 84, 12, 14, 30
-COLUMNS = 240  # with more marks than that, a stroke from the least to the greatest of each column
+COLUMNS = 160  # with more marks than that, a stroke from the least to the greatest of each column
 USUAL = {"earth": 39860120000.0, "moon": 490277800.0}
 RADIUS = {"earth": 6_378_166.0, "moon": 1_738_090.0}
-SIDE, STEPS = 300, 96
+SIDE, STEPS = 300, 72
 
 
 def label(x, y, words, anchor="middle"):
