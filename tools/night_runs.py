@@ -93,7 +93,7 @@ NINE = {
     "cabin-8/good": (session(-3, 0, -1, (99.0,)), (-3, "passed", "", 3, 1)),
     "cabin-8/<b>&\"'é": (session(4, 0), (4, "passed", "", 5, 3)),
 }
-UNREAD = {"cabin-9/a folder": "no plain file", "cabin-9/a pipe": "no plain file", "cabin-9/nowhere": "No such file or directory"}
+UNREAD = {"cabin-9/a folder": "Is a directory", "cabin-9/a pipe": "no plain file", "cabin-9/nowhere": "No such file or directory"}
 
 
 def nine(folder):
