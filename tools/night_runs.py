@@ -2,8 +2,9 @@
 """night_runs: the night run, on nine small cabins: what it says of good, failing, damaged, empty and unreadable sessions, under
 which day it files them, and that it can be killed, started twice, starved of disk and time without losing or repeating anything.
 
-  tools/night_runs.py          a part of the gate
-  tools/night_runs.py --year   nine cabins, 365 nights, some sessions damaged, the run killed at random points
+  tools/night_runs.py                  a part of the gate
+  tools/night_runs.py WORDS            the cases whose name has the words
+  tools/night_runs.py --year [NIGHTS]  nine cabins, 365 nights, some sessions damaged, the run killed at random points
 
 What a session must get is stated by who makes it here; its lines are those of `./cabin replay`. The seed is printed, and
 CABIN_SEED=N repeats a run. Run it from the project's root."""
@@ -608,9 +609,21 @@ def _():
         hold(night(folder, "--out", results, "--one", "cabin-3/none"), 2, "^$", "there is no session")
 
 
-@case("report.html in a real browser")
+@case("report.html in a real browser: the table is report.json's, and nothing is fetched")
 def _():
-    NOT_RUN.append("report.html in Chromium: " + ("no test of it is written yet" if shutil.which("chromium") else "it is not installed"))
+    if not shutil.which("chromium"):
+        return NOT_RUN.append("report.html in Chromium: it is not installed")
+    with room() as (folder, results):
+        nine(folder)
+        hold(night(folder, "--out", results), 1)
+        for width in (400, 1400):
+            log = folder.parent / f"net-{width}"
+            ran = subprocess.run(["chromium", "--headless=new", "--no-sandbox", "--disable-gpu", "--disable-background-networking", "--disable-component-update", "--no-first-run", f"--user-data-dir={folder.parent}/profile", f"--window-size={width},900", f"--log-net-log={log}", "--dump-dom", (results / "report.html").as_uri()], capture_output=True, text=True, timeout=120)
+            assert ran.returncode == 0 and len(ran.stdout) > 1000, ran.stderr[-500:]
+            (results / "report.html").write_text(ran.stdout)  # the page's own DOM, held as the file is
+            check_page(results)
+            assert not re.search(r'"url":"https?:', log.read_text(errors="replace")), "something was fetched"
+    return None
 
 
 # ---- a year
@@ -639,9 +652,10 @@ def year(nights=365):
     return 0
 
 
-def main():
+def main(words=""):
     failed = 0
-    for name, function in CASES:
+    chosen = [(name, function) for name, function in CASES if words in name]
+    for name, function in chosen:
         began = time.monotonic()
         try:
             function()
@@ -652,9 +666,9 @@ def main():
             print(f"{time.monotonic() - began:5.1f} s {name}", flush=True)
     for words in NOT_RUN:
         print(f"not run: {words}")
-    print(f"{len(CASES)} cases of the night run, seed {SEED}: {failed} failed, {len(NOT_RUN)} parts not run")
+    print(f"{len(chosen)} cases of the night run, seed {SEED}: {failed} failed, {len(NOT_RUN)} parts not run")
     return 1 if failed else 0
 
 
 if __name__ == "__main__":
-    sys.exit(year(*map(int, sys.argv[2:])) if sys.argv[1:2] == ["--year"] else main())
+    sys.exit(year(*map(int, sys.argv[2:])) if sys.argv[1:2] == ["--year"] else main(*sys.argv[1:]))
