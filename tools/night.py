@@ -200,16 +200,17 @@ class Night:
 
     def run_all(self, left):
         progress, results = Progress(self.store, len(left)), {}
-        with concurrent.futures.ThreadPoolExecutor(self.jobs) as workers:
-            waiting = {workers.submit(self.kept, session): session for session in left}
-            try:
-                for future in concurrent.futures.as_completed(waiting):
-                    results[waiting[future]] = future.result()
-                    progress.add(results[waiting[future]]["verdict"])
-            finally:
-                if len(results) < len(left):
-                    workers.shutdown(wait=False, cancel_futures=True)
-                    self.runner.stop()
+        workers = concurrent.futures.ThreadPoolExecutor(self.jobs)
+        waiting = {workers.submit(self.kept, session): session for session in left}
+        try:
+            for future in concurrent.futures.as_completed(waiting):
+                results[waiting[future]] = future.result()
+                progress.add(results[waiting[future]]["verdict"])
+        finally:
+            workers.shutdown(wait=False, cancel_futures=True)
+            if len(results) < len(left):
+                self.runner.stop()
+                concurrent.futures.wait(waiting, timeout=5)
         return results
 
     def gone(self):
@@ -220,6 +221,7 @@ class Night:
 
     def report(self, results):
         """Writes the reports, and says how it stands with the sessions of the folder."""
+        self.store.sweep()
         left = len(self.found.sessions) - len(results)
         every, cabins = [*results.values(), *self.gone()], self.found.cabins
         put(self.store.top / "report.txt", report.as_text(every, cabins, left, self.terms()).encode())
@@ -233,7 +235,6 @@ class Night:
 
     def remake(self):
         with self.store.lock():
-            self.store.sweep()
             return self.report(self.sorted_out()[0])
 
     def list_left(self):
@@ -290,4 +291,7 @@ def main(words):
 
 
 if __name__ == "__main__":
-    sys.exit(main(sys.argv[1:]))
+    end = main(sys.argv[1:])
+    with contextlib.suppress(OSError):
+        sys.stderr.flush()
+    os._exit(end)  # though a session's disk does not answer: whatever is to be kept is on the disk by now

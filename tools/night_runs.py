@@ -384,7 +384,7 @@ def _():
         assert counter.starts() == 1 and not (results / "a" / "day-1" / "2.txt").exists() and (results / "a" / "day-7" / "2.txt").exists()
         made(folder, {"a/2": session(1, 2)})
         hold(night(folder, "--out", results, refly=counter.words), 0)
-        assert counter.starts() == 1 and texts(results) == before, "an empty day stays"
+        assert counter.starts() == 1 and texts(results) == before and not (results / "a" / "day-7").exists(), "an empty day stays"
         with open(counter.path, "a") as file:
             file.write("# another program\n")
         hold(night(folder, "--out", results, refly=counter.words), 0)
@@ -492,10 +492,26 @@ def _():
         hold((first.returncode, wrote, said), 1, "2 passed, 1 failed")
 
 
+@case("single sessions go side by side, and no whole run with them")
+def _():
+    with room() as (folder, results):
+        slow, quick = session(1, 0), session(1, 0, None, (1.0,))
+        counter = Counter(folder.parent, {len(slow): f"touch {folder.parent}/begun; while [ ! -e {folder.parent}/go ]; do sleep 0.05; done"})
+        made(folder, {"a/slow": slow, "a/quick": quick})
+        first = start(folder, "--out", results, "--one", "a/slow", refly=counter.words)
+        wait_for((folder.parent / "begun").exists)
+        hold(night(folder, "--out", results, "--one", "a/quick", refly=counter.words), 0, "^a/quick: passed\n$")
+        hold(night(folder, "--out", results, refly=counter.words), 2, "^$", "another run has")
+        (folder.parent / "go").touch()
+        wrote, said = first.communicate(timeout=20)
+        hold((first.returncode, wrote, said), 0, "^a/slow: passed\n$")
+        assert counter.starts() == 2
+
+
 # ---- what can break
 
 BROKEN = {  # by how many marks: what the program does, and the words
-    4: ("sleep 77 & sleep 78", r"no answer in 1 s"),
+    4: ("sleep 77 & echo $$ $! >>@/pids; sleep 78", r"no answer in 1 s"),
     5: ("kill -SEGV $$", r"the program died of signal 11"),
     6: ("echo 'no such thing' >&2; exit 3", r"the program ended with status 3: no such thing"),
     7: ("echo 'standard output: it is late' >&2; exit 0", r"the program says: standard output: it is late"),
@@ -510,7 +526,7 @@ BROKEN = {  # by how many marks: what the program does, and the words
 def _():
     with room() as (folder, results):
         sizes = {count: session(3, 0, 60, (1.0,) * count) for count in BROKEN}
-        counter = Counter(folder.parent, {len(sizes[count]): what for count, (what, _) in BROKEN.items()})
+        counter = Counter(folder.parent, {len(sizes[count]): what.replace("@", str(folder.parent)) for count, (what, _) in BROKEN.items()})
         made(folder, {f"a/{count}": data for count, data in sizes.items()})
         made(folder, {"b/good": session(3, 0), "b/bad": b"bad"})
         hold(night(folder, "--out", results, "--patience", "1", refly=counter.words), 1, f"1 passed, 1 failed, {len(BROKEN)} broken")
@@ -520,6 +536,8 @@ def _():
             assert one["verdict"] == "broken" and one["day"] == 3 and re.fullmatch(words, one["reason"]), one
             assert (results / "a" / "day-3" / f"{count}.txt").read_text() == f"verdict broken {one['reason']}\n"
         check_page(results)
+        pids = (folder.parent / "pids").read_text().split()
+        assert len(pids) == 2 and not any(map(alive, pids)), "a program is left behind"
         counter.starts()
         (folder / "a" / "4.bin").unlink()
         hold(night(folder, "--out", results, refly=counter.words), 1)
@@ -535,6 +553,12 @@ def _():
         hold(night(folder, "--out", results, "--jobs", "1", preexec_fn=small), 2, "^$", "File too large: nothing is lost")
         assert not list(results.rglob("tall.*")) and not list(results.rglob(".night-*")) and not (results / "report.json").exists()
         hold(night(folder, "--out", results), 0, "3 passed")
+        before = {name: data for name, data in texts(results).items() if name.startswith("report.")}
+        made(folder, {"b/more": session(2, 0, None, (2.0,))})
+        hold(night(folder, "--out", results, preexec_fn=small), 2, "^$", "report.html: File too large")
+        after = texts(results)
+        assert "b/day-2/more.txt" in after and all(after[name] == data for name, data in before.items() if name != "report.txt"), "a report by halves"
+        hold(night(folder, "--out", results), 0, "4 passed", "no session is left")
         if os.getuid() == 0 and subprocess.run(["unshare", "-m", "true"], capture_output=True).returncode == 0:
             full_disk(folder, folder.parent / "disk")
         else:
@@ -551,7 +575,7 @@ def full_disk(folder, disk):
     if ran.returncode == 77:
         return NOT_RUN.append("a full disk: no file system can be mounted here")
     lines = ran.stdout.split("\n")
-    assert lines[0] == "first 2" and 0 < int(lines[1]) < 12 and "15 passed" in lines[2] and lines[3] == "then 0", ran
+    assert lines[0] == "first 2" and 0 < int(lines[1]) < 12 and "16 passed" in lines[2] and lines[3] == "then 0", ran
     assert "No space left" in ran.stderr, ran
     return None
 
@@ -650,6 +674,11 @@ def year(nights=365):
                 print(f"night {day + 1}: {len(wanted)} sessions, {kills} kills, {time.monotonic() - began:.0f} s, report.html {(results / 'report.html').stat().st_size:,} bytes", flush=True)
     print(f"{nights} nights, {len(wanted)} sessions, {kills} kills, seed {SEED}: nothing lost, nothing run twice")
     return 0
+
+
+@case("a few nights, the run killed at random points: nothing is lost, nothing run twice")
+def _():
+    year(5)
 
 
 def main(words=""):

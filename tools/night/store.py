@@ -30,8 +30,10 @@ def put(path, data):
             file.flush()
             os.fsync(file.fileno())
         os.replace(made, path)
-    except BaseException:
+    except BaseException as error:
         made.unlink(missing_ok=True)
+        if isinstance(error, OSError):
+            error.filename = str(path)
         raise
     settle(path.parent)
 
