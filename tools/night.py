@@ -210,7 +210,7 @@ class Night:
             workers.shutdown(wait=False, cancel_futures=True)
             if len(results) < len(left):
                 self.runner.stop()
-                concurrent.futures.wait(waiting, timeout=5)
+                concurrent.futures.wait([one for one in waiting if not one.cancelled()], timeout=5)
         return results
 
     def gone(self):
