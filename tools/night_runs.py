@@ -633,6 +633,34 @@ def _():
         hold(night(folder, "--out", results, "--one", "cabin-3/none"), 2, "^$", "there is no session")
 
 
+def on_page(ahead):
+    """The indented block of the night's page behind some words."""
+    text = (ROOT / "docs" / "pages" / "night.md").read_text().split(ahead, 1)[1]
+    block = re.search(r"\n\n((?:    .*\n|\n(?=    ))+)", text)[1]
+    return re.sub(r"^    ", "", block, flags=re.M)
+
+
+@case("the page's cron line does its work, and its units are well-formed")
+def _():
+    with room() as (folder, results):
+        made(folder, {"a/x": session(1, 0)})
+        here = lambda text: text.replace("/srv/cabin", str(ROOT)).replace("/srv/sessions", str(folder)).replace("/srv/results", str(results))
+        path, line = here(on_page("With cron,")).strip("\n").split("\n")
+        fields = line.split(" ", 5)
+        assert fields[:5] == ["0", "20-23,0-5", "*", "*", "*"]
+        ran = subprocess.run(["env", "-i", path, f"HOME={folder.parent}", "/bin/sh", "-c", fields[5]], capture_output=True, text=True)
+        assert ran.returncode == 0 and "1 passed" in pathlib.Path(f"{results}.log").read_text(), ran
+        if not shutil.which("systemd-analyze"):
+            return NOT_RUN.append("the page's units: no systemd-analyze here")
+        units = {"cabin-night.service": "cabin-night.service`:", "cabin-night.timer": "cabin-night.timer`:"}
+        for name, ahead in units.items():
+            (folder.parent / name).write_text(here(on_page(ahead)).replace("User=cabin", "User=root"))
+        ran = subprocess.run(["systemd-analyze", "verify", "--man=no", *(folder.parent / name for name in units)], capture_output=True, text=True)
+        wrong = [line for line in ran.stderr.split("\n") if "cabin-night" in line]
+        assert ran.returncode == 0 and not wrong, ran
+    return None
+
+
 @case("report.html in a real browser: the table is report.json's, and nothing is fetched")
 def _():
     if not shutil.which("chromium"):
