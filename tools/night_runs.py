@@ -617,14 +617,15 @@ def _():
     with room() as (folder, results):
         nine(folder)
         hold(night(folder, "--out", results), 1)
-        spread = {"xargs": "xargs -d '\\n' -P 2 -I {} ./cabin night \"$1\" --out \"$2\" --one {}"}
+        lines = on_page("With GNU parallel").replace(":,bench-2,bench-3", ":").replace("/srv/cabin", str(ROOT)).replace("/srv/sessions", str(folder))
+        spread = {"xargs": re.sub(r"parallel .* --workdir \S+", "xargs -d '\\\\n' -P 2 -I {}", lines)}
         if shutil.which("parallel"):
-            spread["parallel"] = 'parallel --jobs 2 ./cabin night "$1" --out "$2" --one {}'
+            spread["parallel"] = lines
         else:
             NOT_RUN.append("GNU parallel: it is not installed; xargs -P 2 was run in its place")
-        for name, line in spread.items():
+        for name, script in spread.items():
             other = folder.parent / name
-            ran = subprocess.run(["bash", "-c", f'./cabin night "$1" --out "$2" --list | {line}; ./cabin night "$1" --out "$2" --report', "x", folder, other], cwd=ROOT, capture_output=True, text=True)
+            ran = subprocess.run(["bash", "-c", script.replace("/srv/results", str(other))], capture_output=True, text=True)
             assert ran.returncode == 1 and "cabin-5/cut: failed refused 11 at 184" in ran.stdout, ran
             assert texts(other) == texts(results), name
         hold(night(folder, "--out", results, "--one", "cabin-1/good"), 0, "^cabin-1/good: passed\n$")
