@@ -73,8 +73,12 @@ def cells(one):
             str(one["records"]), str(one["marks"]), "" if one["worst"] is None else places(one["worst"]), local_time(one))
 
 
+def many(count, word):
+    return f"{count} {word}" + ("" if count == 1 else "s")
+
+
 def headline(results, cabins, left):
-    text = f"{len(by_cabin(results, cabins))} cabins, {len(results)} sessions: {counted(results)}"
+    text = f"{many(len(by_cabin(results, cabins)), 'cabin')}, {many(len(results), 'session')}: {counted(results)}"
     return text + (f"; {left} not run yet" if left else "")
 
 
