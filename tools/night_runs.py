@@ -120,6 +120,7 @@ def environment(refly=None, mu=()):
 
 
 def start(*words, refly=None, **more):
+    more.setdefault("preexec_fn", lambda: signal.signal(signal.SIGINT, signal.SIG_IGN))  # as the front starts it
     more.setdefault("stderr", subprocess.PIPE)
     return subprocess.Popen([sys.executable, NIGHT, *map(str, words)], stdout=subprocess.PIPE, text=True, env=environment(refly), **more)
 
@@ -459,6 +460,23 @@ def _():
         _, said = run.communicate(timeout=20)
         assert run.returncode == 2 and "it was stopped" in said, (run.returncode, said)
         assert not list(results.glob("a/*/*")) and all(not alive(pid) for pid in pids.read_text().split())
+
+
+@case("interrupted at any point: 0 or 1 only where the report was made")
+def _():
+    with room() as (folder, results):
+        made(folder, {f"a/{k}": session(1, k) for k in range(6)})
+        ends = []
+        for k in range(16):
+            shutil.rmtree(results, ignore_errors=True)
+            run = subprocess.Popen([ROOT / "cabin", "night", folder, "--out", results], stdout=subprocess.PIPE, stderr=subprocess.PIPE, text=True, start_new_session=True)
+            time.sleep(0.05 * k)
+            with contextlib.suppress(ProcessLookupError):
+                os.killpg(run.pid, signal.SIGINT)
+            wrote, said = run.communicate(timeout=60)
+            assert run.returncode not in (0, 1) or "6 passed" in wrote, (run.returncode, said)
+            ends.append(run.returncode)
+        assert 2 in ends, ends
 
 
 def alive(pid):
