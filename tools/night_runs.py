@@ -413,12 +413,19 @@ def _():
         assert counter.starts() == 4 and texts(results) == before
 
 
+def finished(results):
+    """The results that have their note and are not broken."""
+    for path in results.glob(".night/*/*.key"):
+        note = json.loads(path.read_text())
+        if note["verdict"] != "broken":
+            yield results / note["cabin"] / f"day-{'none' if note['day'] is None else note['day']}" / f"{note['name']}.txt"
+
+
 def killed_and_resumed(folder, results, refly, most, seconds):
     """Kills a run at random points, some of its kin with it, until one ends; what was finished at a kill must not be run again."""
     kills = 0
     while True:
-        finished = set(results.glob("*/day-*/*.txt")) & {results / path.parent.name / day.name / f"{path.stem}.txt" for path in results.glob(".night/*/*.key") for day in results.glob(f"{path.parent.name}/day-*")}
-        stamps = {path: path.stat().st_mtime_ns for path in finished if not path.read_bytes().startswith(b"verdict broken")}
+        stamps = {path: path.stat().st_mtime_ns for path in finished(results)}
         run = start(folder, "--out", results, refly=refly, start_new_session=True)
         try:
             run.wait(timeout=DICE.uniform(0.05, seconds) if kills < most else None)
