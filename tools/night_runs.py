@@ -324,12 +324,13 @@ def _():
         assert re.fullmatch(r"record 3 off -?\d+\.\d{6}", verdicts(results)["a/x"]["reason"])
 
 
-@case("by settings: the lines are those of replay by them; settings that refuse: 2")
+@case("by settings: the lines are those of replay by them, though it was run without; settings that refuse: 2")
 def _():
     with room() as (folder, results):
         made(folder, {"a/x": session(1, 0)})
         path = folder.parent / "settings"
         path.write_bytes(version(1, body=0, mu=3.986012e10) + version(2, body=1, mu=490_000_000.0))
+        hold(front(folder, "--out", results), 0)
         got = front(folder, "--out", results, "--settings", path, 1, 2)
         lines = subprocess.run([ROOT / "cabin", "replay", folder / "a" / "x.bin", "--settings", path, "1", "2"], capture_output=True, text=True).stdout
         assert (results / "a" / "day-1" / "x.txt").read_text().startswith(lines) and len(lines) > 100, got
