@@ -448,7 +448,7 @@ def _():
     with room() as (folder, results):
         nine(folder)
         made(folder, {f"cabin-{k % 9 + 1}/more {k}": session(6, k * HOUR % DAY, 60) for k in range(18)})
-        kills, status = killed_and_resumed(folder, results, None, 12, 0.9)
+        kills, status = killed_and_resumed(folder, results, None, 8, 0.9)
         assert status == 1 and kills, (status, kills)
         other = folder.parent / "other"
         hold(night(folder, "--out", other), 1)
@@ -475,10 +475,10 @@ def _():
     with room() as (folder, results):
         made(folder, {f"a/{k}": session(1, k) for k in range(6)})
         ends = []
-        for k in range(16):
+        for k in range(10):
             shutil.rmtree(results, ignore_errors=True)
             run = subprocess.Popen([ROOT / "cabin", "night", folder, "--out", results], stdout=subprocess.PIPE, stderr=subprocess.PIPE, text=True, start_new_session=True)
-            time.sleep(0.05 * k)
+            time.sleep(0.06 * k)
             with contextlib.suppress(ProcessLookupError):
                 os.killpg(run.pid, signal.SIGINT)
             wrote, said = run.communicate(timeout=60)
