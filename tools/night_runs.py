@@ -452,8 +452,8 @@ def _():
         assert status == 1 and kills, (status, kills)
         other = folder.parent / "other"
         hold(night(folder, "--out", other), 1)
-        assert texts(results) == texts(other)
-        assert not list(results.rglob(".night-*"))
+        assert texts(results) == texts(other), "it ends as another"
+        assert not list(results.rglob(".night-*")), "half a file is left"
 
 
 @case("told to end: 2, no verdict of what was running, and no program is left behind")
@@ -467,7 +467,8 @@ def _():
         run.send_signal(signal.SIGTERM)
         _, said = run.communicate(timeout=20)
         assert run.returncode == 2 and "it was stopped" in said, (run.returncode, said)
-        assert not list(results.glob("a/*/*")) and all(not alive(pid) for pid in pids.read_text().split())
+        assert not list(results.glob("a/*/*")), "a verdict of what was ended"
+        wait_for(lambda: not any(map(alive, pids.read_text().split())))
 
 
 @case("interrupted at any point: 0 or 1 only where the report was made")
@@ -563,7 +564,8 @@ def _():
             assert (results / "a" / "day-3" / f"{count}.txt").read_text() == f"verdict broken {one['reason']}\n"
         check_page(results)
         pids = (folder.parent / "pids").read_text().split()
-        assert len(pids) == 2 and not any(map(alive, pids)), "a program is left behind"
+        assert len(pids) == 2, pids
+        wait_for(lambda: not any(map(alive, pids)))
         counter.starts()
         (folder / "a" / "4.bin").unlink()
         hold(night(folder, "--out", results, refly=counter.words), 1)
