@@ -10,7 +10,7 @@ runs=5
 # the Rattle side's series, the C side's, and how many solves
 benches=(root:root-by-steps:4000000 root:root:4000000 advance:advance:100000 lambert:lambert:20000 theta:theta:200000 list:list:1000)
 
-# At -O3, C at its best; static, so that it needs no loader; without libm, whose one function is an instruction.
+# At -O3 and over all files at once, C at its best; static, so that it needs no loader; without libm, whose one function is an instruction.
 build_c() {
     local cc=gcc
     if [ "$(uname -m)" = x86_64 ]; then
@@ -20,7 +20,7 @@ build_c() {
         need "$cc" gcc-x86-64-linux-gnu libc6-dev-amd64-cross
     fi
     need make make
-    make -s -C "$home/second" CC=$cc OPT=-O3 OUT="$keep/second-x86-64" LDFLAGS=-static LDLIBS= >&2 ||
+    make -s -C "$home/second" CC=$cc OPT='-O3 -flto=auto' OUT="$keep/second-x86-64" LDFLAGS=-static LDLIBS= >&2 ||
         fail "the second program could not be built for x86-64"
 }
 

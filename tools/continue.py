@@ -60,7 +60,7 @@ def run_by_parts(found, desks, requests, dice):
     behind = {request: "" for request in requests}
     count = {request: 0 for request in requests}
     while behind:
-        lines = [f"{r}{tail} limit {count[r] + dice.choice((0, 1, 2, 3, 5, 8, 20))}" for r, tail in behind.items()]
+        lines = [f"{r}{tail} limit {count[r] + dice.choice((0, 1, 2, 3, 7, 20))}" for r, tail in behind.items()]
         left = {}
         for request, answer in zip(behind, asked_of_both(found, desks, lines)):
             if answer.startswith("refused 29 "):

@@ -197,8 +197,6 @@ SETTINGS = [
     ("T-11: version 0 let in", "settings.c", "if (number < 1 || number > last.number)", "if (number > last.number)"),
     ("T-11: going back gives the old number", "settings.c", "put_behind(s, size, latest(s).number, &old.version)", "put_behind(s, size, number - 1, &old.version)"),
     ("T-11: a body cut to a byte", "settings.c", "put_little_endian(at + 8, 4, v->body)", "put_little_endian(at + 8, 4, v->body & 0)"),
-    ("T-11: 01's fractions whatever the version", "desk.c", "    on->closed = named.version.closed;\n", ""),
-    ("T-11: the fractions exchanged", "desk.c", "    on->closed = named.version.closed;\n    on->fair = named.version.fair;\n", "    on->closed = named.version.fair;\n    on->fair = named.version.closed;\n"),
 ]
 
 
@@ -276,7 +274,7 @@ def watched(program):
 
 
 def stored(program):
-    """What becomes of some 70 files of settings, and what solves get by their versions."""
+    """What becomes of some 70 files of settings."""
     return [outcome for sequence in settings.sequences(40, 1) for outcome in settings.outcomes(str(program), sequence, ROOM)]
 
 

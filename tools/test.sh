@@ -63,6 +63,7 @@ part "the listing, on whole, cut, damaged and over-long sessions" python3 tools/
 part "sessions as text, there and back, and text with faults" python3 tools/text_runs.py
 part "the listing of a session as it comes" python3 tools/watch_runs.py
 part "the front, where things go wrong" python3 tools/front_runs.py
+part "the night run" python3 tools/night_runs.py
 part "stored requests" bash tools/compare.sh stored
 part "fresh requests" bash tools/compare.sh requests
 part "solves stopped and gone on with" bash tools/compare.sh stops

@@ -1,0 +1,760 @@
+#!/usr/bin/env python3
+"""night_runs: the night run, on nine small cabins: what it says of good, failing, damaged, empty and unreadable sessions, under
+which day it files them, and that it can be killed, started twice, starved of disk and time without losing or repeating anything.
+
+  tools/night_runs.py                  a part of the gate
+  tools/night_runs.py WORDS            the cases whose name has the words
+  tools/night_runs.py --year [NIGHTS]  nine cabins, 365 nights, some sessions damaged, the run killed at random points
+
+What a session must get is stated by who makes it here; its lines are those of `./cabin replay`. The seed is printed, and
+CABIN_SEED=N repeats a run. Run it from the project's root."""
+import contextlib
+import functools
+import html.parser
+import json
+import math
+import os
+import pathlib
+import random
+import re
+import resource
+import shutil
+import signal
+import struct
+import subprocess
+import sys
+import tempfile
+import time
+
+sys.path.insert(0, str(pathlib.Path(__file__).parent))
+from make_sample import BURN, DAY, HOUR, MARK, MINUTE, MOON, STATE, circling, flown, offset, record
+from settings import record as version
+
+ROOT = pathlib.Path(__file__).resolve().parent.parent
+NIGHT = ROOT / "tools" / "night.py"
+SEED = int(os.environ.get("CABIN_SEED", time.time()))
+DICE = random.Random(SEED)
+NOBODY = 65534
+NOT_RUN = []
+CASES = []
+
+
+def case(name):
+    return lambda function: CASES.append((name, function)) or function
+
+
+# ---- sessions
+
+TARGET, CHASER = circling(MOON + 111_120.0, 0.02), circling(MOON + 83_340.0, 0.0)
+
+
+@functools.cache
+def distance(cs):
+    return math.dist(flown(TARGET, cs)[:3], flown(CHASER, cs)[:3])
+
+
+def session(day, cs, minutes=None, noises=(3.0, -5.0, 2.5), tail=b""):
+    """Two states at a local day and cs, then a mark a minute, each off by a noise; and what stands behind them."""
+    start = day * DAY + cs - (minutes or 0) * MINUTE
+    parts = [offset(minutes)] if minutes is not None else []
+    parts += [record(STATE, 0, 1, start, *TARGET), record(STATE, 1, 1, start, *CHASER)]
+    parts += [record(MARK, 1, 0, start + k * MINUTE, distance(k * MINUTE) - noise, 0.0) for k, noise in enumerate(noises, 1)]
+    return b"".join(parts) + tail
+
+
+def made(folder, sessions):
+    """Writes CABIN/NAME -> bytes."""
+    for name, data in sessions.items():
+        path = folder / f"{name}.bin"
+        path.parent.mkdir(parents=True, exist_ok=True)
+        path.write_bytes(data)
+
+
+LATE = 23 * HOUR + 50 * MINUTE
+
+# CABIN/NAME: the session, and what it must get: its day, the verdict, a pattern of the reason, records, marks
+NINE = {
+    "cabin-1/good": (session(4, LATE), (4, "passed", "", 5, 3)),
+    "cabin-1/night shift": (session(4, LATE, 120, (1.0,) * 30), (4, "passed", "", 32, 30)),
+    "cabin-2/after midnight": (session(5, 10 * MINUTE, 120), (5, "passed", "", 5, 3)),
+    "cabin-2/far east": (session(5, 13 * HOUR, 840), (5, "passed", "", 5, 3)),
+    "cabin-2/far west": (session(4, 12 * HOUR, -840), (4, "passed", "", 5, 3)),
+    "cabin-3/off": (session(4, LATE, 120, (3.0, 150.0, -200.0)), (4, "failed", r"record 4 off (149\.9|150\.0)\d*", 5, 3)),
+    "cabin-3/good": (session(4, 0), (4, "passed", "", 5, 3)),
+    "cabin-4/refused": (session(4, 0, None, (1.0,), record(BURN, 1, 0, 4 * DAY, 130.0, 0.0, 0.0)), (4, "failed", "record 4 refused 4", 4, 1)),
+    "cabin-4/not set": (record(BURN, 1, 0, -1, 1.0, 0.0, 0.0), (-1, "failed", "record 1 refused 20", 1, 0)),
+    "cabin-5/damaged": (session(4, 0, 60, (1.0,), struct.pack("<HH", 30, 9)), (4, "failed", "refused 13 at 162", 3, 1)),
+    "cabin-5/cut": (session(4, 0)[:-1], (4, "failed", "refused 11 at 184", 4, 2)),
+    "cabin-5/off, then damaged": (session(4, 0, None, (500.0,), b"\0\0\0\0"), (4, "failed", r"record 3 off (499\.9|500\.0)\d*", 3, 1)),
+    "cabin-6/empty": (b"", (None, "passed", "", 0, 0)),
+    "cabin-6/offset alone": (offset(-60), (None, "passed", "", 0, 0)),
+    "cabin-6/rubbish": (b"no session at all", (None, "failed", "refused 13 at 0", 0, 0)),
+    "cabin-7/too long": (session(4, 0) * 400, (None, "failed", "refused 12 at 0", 0, 0)),
+    "cabin-7/bad offset": (offset(841) + session(4, 0), (None, "failed", "refused 14 at 0", 0, 0)),
+    "cabin-8/good": (session(-3, 0, -1, (99.0,)), (-3, "passed", "", 3, 1)),
+    "cabin-8/<b>&\"'é": (session(4, 0), (4, "passed", "", 5, 3)),
+}
+UNREAD = {"cabin-9/a folder": "Is a directory", "cabin-9/a pipe": "no plain file", "cabin-9/nowhere": "No such file or directory"}
+
+
+def nine(folder):
+    """The nine cabins."""
+    made(folder, {name: data for name, (data, _) in NINE.items()})
+    cabin = folder / "cabin-9"
+    cabin.mkdir()
+    (cabin / "a folder.bin").mkdir()
+    os.mkfifo(cabin / "a pipe.bin")
+    (cabin / "nowhere.bin").symlink_to("none")
+
+
+# ---- runs
+
+@functools.cache
+def command(name):
+    ran = subprocess.run([ROOT / "cabin", "ready", name], stdout=subprocess.PIPE, text=True, check=True)
+    return ran.stdout.strip("\n").split("\n")
+
+
+def environment(refly=None, mu=()):
+    return dict(os.environ, CABIN_REFLY="\n".join(refly or command("refly")), CABIN_LISTING="\n".join(command("listing")), CABIN_MU=" ".join(mu), TZ="Pacific/Kiritimati")
+
+
+def start(*words, refly=None, **more):
+    more.setdefault("preexec_fn", lambda: signal.signal(signal.SIGINT, signal.SIG_IGN))  # as the front starts it
+    more.setdefault("stderr", subprocess.PIPE)
+    return subprocess.Popen([sys.executable, NIGHT, *map(str, words)], stdout=subprocess.PIPE, text=True, env=environment(refly), **more)
+
+
+def night(*words, refly=None, **more):
+    """The status, what it wrote and what it said."""
+    run = start(*words, refly=refly, **more)
+    wrote, said = run.communicate(timeout=300)
+    return run.returncode, wrote, said
+
+
+def front(*words):
+    ran = subprocess.run([ROOT / "cabin", "night", *map(str, words)], capture_output=True, text=True, timeout=300)
+    return ran.returncode, ran.stdout, ran.stderr
+
+
+def hold(got, status, wrote="", says=""):
+    assert got[0] == status, f"status {got[0]}, not {status}: {got}"
+    assert re.search(wrote, got[1]), f"wrote {got[1]!r}, without {wrote!r}"
+    assert re.search(says, got[2]), f"said {got[2]!r}, without {says!r}"
+
+
+@contextlib.contextmanager
+def room():
+    """A folder for sessions and one for results."""
+    with tempfile.TemporaryDirectory() as top:
+        top = pathlib.Path(top)
+        (top / "folder").mkdir()
+        yield top / "folder", top / "results"
+        subprocess.run(["chmod", "-R", "u+rwX", top], check=True)
+
+
+def told(results):
+    return json.loads((results / "report.json").read_text())
+
+
+def verdicts(results):
+    return {f"{one['cabin']}/{one['name']}": one for one in told(results)["sessions"]}
+
+
+def texts(results):
+    """Every result and report but the notes."""
+    return {str(path.relative_to(results)): path.read_bytes() for path in results.rglob("*") if path.is_file() and ".night" not in path.parts}
+
+
+class Counter:
+    """A program that notes each start and then does as the real one, or as it is told for sessions of some size."""
+
+    def __init__(self, top, behaviours=()):
+        self.log = top / "log"
+        self.log.touch()
+        self.path = top / "stand-in"
+        cases = "".join(f"{size}) {what} ;;\n" for size, what in dict(behaviours).items())
+        real = " ".join(f"'{word}'" for word in command("refly"))
+        self.path.write_text(f"""#!/bin/bash
+given=$(mktemp {top}/given-XXXXXX); cat >"$given"; exec <"$given"; rm "$given"
+echo "$(sha256sum </dev/stdin | cut -c 1-64)" >>{self.log}
+case $(stat -L -c %s /dev/fd/0) in
+{cases}esac
+exec {real} "$@"
+""")
+        self.path.chmod(0o755)
+        self.words = [str(self.path)]
+
+    def starts(self):
+        """How many programs were started since this was asked last."""
+        lines = self.log.read_text().split("\n")[:-1]
+        self.log.write_text("")
+        return len(lines)
+
+
+# ---- what it says
+
+def check_results(folder, results):
+    """Every session's place, lines, verdict and counts, and report.json held to them."""
+    got = verdicts(results)
+    assert set(got) == {*NINE, *UNREAD}, set(got) ^ {*NINE, *UNREAD}
+    for name, (data, (day, verdict, reason, records, marks)) in NINE.items():
+        one = got[name]
+        assert (one["day"], one["verdict"], one["records"], one["marks"]) == (day, verdict, records, marks), (name, one)
+        assert re.fullmatch(reason, one["reason"]), (name, one)
+        lines = subprocess.run([*command("refly"), folder / f"{name}.bin"], capture_output=True, text=True, check=True).stdout
+        cabin, stem = name.split("/")
+        text = (results / cabin / f"day-{'none' if day is None else day}" / f"{stem}.txt").read_text()
+        assert text == lines + f"verdict {verdict}" + (f" {one['reason']}" if one["reason"] else "") + "\n", name
+        offs = [abs(struct.unpack(">d", bytes.fromhex(bits))[0]) for bits in re.findall(r" off \S+ bits x(\w+)", lines)]
+        assert one["worst"] == max(offs, default=None), name
+    for name, words in UNREAD.items():
+        assert (got[name]["day"], got[name]["verdict"], got[name]["worst"]) == (None, "broken", None) and words in got[name]["reason"], got[name]
+        assert (results / "cabin-9" / "day-none" / f"{name[8:]}.txt").read_text() == f"verdict broken {got[name]['reason']}\n"
+    assert len(list(results.glob("*/day-*/*"))) == len(got), "a result too many"
+
+
+@case("nine cabins: every verdict, day, reason and count; exit 1")
+def _():
+    with room() as (folder, results):
+        nine(folder)
+        (folder / "stray.bin").touch()
+        (folder / ".hidden").mkdir()
+        hold(night(folder, "--out", results), 1, "^9 cabins, 22 sessions: 10 passed, 9 failed, 3 broken: ", "1 of what is in the folder")
+        check_results(folder, results)
+        sums = {one.pop("cabin"): one for one in told(results)["cabins"]}
+        assert sums["cabin-5"] == {"passed": 0, "failed": 3, "broken": 0} and sums["cabin-9"] == {"passed": 0, "failed": 0, "broken": 3}, sums
+        keys = [(one["cabin"], one["day"] is None, one["day"] or 0, one["name"]) for one in told(results)["sessions"]]
+        assert keys == sorted(keys) and len(sums) == 9
+        assert all(list(one) == ["cabin", "name", "day", "verdict", "reason", "records", "marks", "worst"] for one in told(results)["sessions"])
+        check_text(results)
+        check_page(results)
+        for path in results.rglob("*"):
+            assert not path.name.startswith(".night-"), path
+
+
+def check_text(results):
+    """report.txt has every session's words, what failed first."""
+    text = (results / "report.txt").read_text().split("sessions, what failed first:\n")[1].split("\n\n")[0].split("\n")[1:]
+    wanted = verdicts(results)
+    assert len(text) == len(wanted)
+    order = [re.search(r"  (failed|broken|passed)(?:  |$)", line)[1] for line in text]
+    assert order == sorted(order, key=["failed", "broken", "passed"].index), order
+    for one in wanted.values():
+        parts = [one["cabin"], "none" if one["day"] is None else str(one["day"]), one["name"], one["verdict"], *filter(None, [one["reason"]]), str(one["records"]), str(one["marks"])]
+        assert any(re.match(r"\s+".join(map(re.escape, parts)) + r"(\s|$)", line) for line in text), parts
+
+
+class Page(html.parser.HTMLParser):
+    """The cells of the sessions' table, the ids, where links lead, the pictures, and whatever could fetch something."""
+
+    def __init__(self):
+        super().__init__()
+        self.rows, self.ids, self.links, self.outside, self.pictures, self.open = [], [], [], [], 0, []
+        self.inside = self.cell = False
+
+    def handle_starttag(self, tag, attributes):
+        given = dict(attributes)
+        self.ids += [given["id"]] if "id" in given else []
+        self.inside = given.get("id") == "sessions" if tag == "section" else self.inside
+        self.pictures += tag == "svg"
+        self.links += [given["href"]] if tag == "a" else []
+        self.outside += [tag] if tag in ("script", "link", "img", "image", "iframe", "object", "embed", "base", "use", "audio", "video", "source") else []
+        self.outside += [name for name, value in attributes if name in ("src", "srcset", "action", "data", "poster", "background") or name.startswith("on") or (name.endswith("href") and not value.startswith("#"))]
+        if tag not in ("meta", "path", "circle"):
+            self.open.append(tag)
+        if self.inside and tag == "tr":
+            self.rows.append([])
+        if self.inside and tag == "td":
+            self.cell = True
+            self.rows[-1].append("")
+
+    def handle_endtag(self, tag):
+        if tag not in ("path", "circle"):
+            assert self.open.pop() == tag, f"{tag} is closed out of its place"
+        self.cell = self.cell and tag != "td"
+
+    def handle_data(self, data):
+        if self.cell:
+            self.rows[-1][-1] += data
+
+
+def check_page(results):
+    """report.html is whole and alone, and its table is report.json's, what failed first."""
+    text = (results / "report.html").read_text()
+    page = Page()
+    page.feed(text)
+    page.close()
+    assert not page.open and not page.outside and not re.search(r"url\(|@import|https?:", text), page.outside
+    assert len(set(page.ids)) == len(page.ids) and all(link[1:] in page.ids for link in page.links), "a link that leads nowhere"
+    rows = [row for row in page.rows if row]
+    got = {f"{row[0]}/{row[2]}": row for row in rows}
+    wanted = verdicts(results)
+    assert len(rows) == len(wanted) and set(got) == set(wanted), set(got) ^ set(wanted)
+    for name, one in wanted.items():
+        row = got[name]
+        assert row[1:7] == ["none" if one["day"] is None else str(one["day"]), one["name"], one["verdict"], one["reason"], str(one["records"]), str(one["marks"])], row
+        assert row[7] == "" if one["worst"] is None else abs(float(row[7]) - one["worst"]) <= 1e-6, row
+    order = [row[3] for row in rows]
+    assert order == sorted(order, key=["failed", "broken", "passed"].index), order
+    assert page.pictures >= sum(one["marks"] > 0 for one in wanted.values())
+
+
+@case("all passed: 0; a folder with no session: 0, and empty reports; a cabin with none is shown")
+def _():
+    with room() as (folder, results):
+        hold(front(folder, "--out", results), 0, "^0 cabins, 0 sessions")
+        made(folder, {"a/x": session(1, 0), "b/y": session(2, 0)})
+        (folder / "c").mkdir()
+        hold(front(folder, "--out", results), 0, "^3 cabins, 2 sessions: 2 passed, 0 failed, 0 broken", "2 of 2 done")
+        assert told(results)["cabins"][2] == {"cabin": "c", "passed": 0, "failed": 0, "broken": 0}
+        check_page(results)
+
+
+@case("the limit: at it passed, over it failed; by another limit all is run again")
+def _():
+    with room() as (folder, results):
+        made(folder, {"a/x": session(1, 0)})
+        hold(night(folder, "--out", results), 0)
+        worst = verdicts(results)["a/x"]["worst"]
+        hold(night(folder, "--out", results, "--limit", repr(worst)), 0)
+        hold(night(folder, "--out", results, "--limit", repr(math.nextafter(worst, 0))), 1)
+        assert re.fullmatch(r"record 4 off -?\d+\.\d{6}", verdicts(results)["a/x"]["reason"])
+        hold(night(folder, "--out", results, "--limit", "0"), 1)
+        assert re.fullmatch(r"record 3 off -?\d+\.\d{6}", verdicts(results)["a/x"]["reason"])
+
+
+@case("by settings: the lines are those of replay by them, though it was run without; settings that refuse: 2")
+def _():
+    with room() as (folder, results):
+        made(folder, {"a/x": session(1, 0)})
+        path = folder.parent / "settings"
+        path.write_bytes(version(1, body=0, mu=3.986012e10) + version(2, body=1, mu=490_000_000.0))
+        hold(front(folder, "--out", results), 0)
+        got = front(folder, "--out", results, "--settings", path, 1, 2)
+        lines = subprocess.run([ROOT / "cabin", "replay", folder / "a" / "x.bin", "--settings", path, "1", "2"], capture_output=True, text=True).stdout
+        assert (results / "a" / "day-1" / "x.txt").read_text().startswith(lines) and len(lines) > 100, got
+        hold(front(folder, "--out", results, "--settings", path, 1, 3), 2, "^$", "refused 23")
+        hold(front(folder, "--out", results, "--settings", path, 2, 1), 2, "^$", "refused 14")
+        hold(front(folder, "--out", results, "--settings", path, 1), 2, "^$", "version of each")
+        hold(front(folder, "--out", results, "--settings", folder.parent / "none", 1, 2), 2, "^$", "cannot be read")
+
+
+@case("words that cannot be read, no such folder, results that cannot be written: 2")
+def _():
+    with room() as (folder, results):
+        made(folder, {"a/x": session(1, 0)})
+        for words in ((), (folder, folder), (folder, "--limit"), (folder, "--limit", "x"), (folder, "--limit", "-1"), (folder, "--limit", "nan"), (folder, "--jobs", "0"), (folder, "--patience", "0"), (folder, "--lists"), (folder, "--list", "--status"), (folder, "--out", ""), (folder, "--jobs", "1", "--jobs", "1")):
+            hold(night(*words, "--out", results) if "--out" not in words else night(*words), 2, "^$", "usage")
+        hold(night(folder / "none", "--out", results), 2, "^$", "there is no folder")
+        hold(night(folder, "--out", folder / "a" / "x.bin" / "results"), 2, "^$", "Not a directory")
+        hold(front(folder / "none", "--out", results), 2, "^$", "there is no folder")
+        assert not results.exists()
+        with open("/dev/full", "w") as full:
+            run = subprocess.run([sys.executable, NIGHT, folder, "--out", results], stdout=full, stderr=subprocess.PIPE, text=True, env=environment())
+        assert run.returncode == 2 and "standard output" in run.stderr, run
+
+
+@case("names: newlines and bytes that are no text are run and reported; a results folder inside the folder is no cabin")
+def _():
+    with room() as (folder, _results):
+        made(folder, {"a/two\nlines": session(1, 0), "a b/ x ": session(1, 0)})
+        with open(os.fsencode(folder) + b"/a/\xff\xfe.bin", "wb") as file:
+            file.write(session(2, 0))
+        hold(night(folder, "--out", folder / "results"), 0, "^2 cabins, 3 sessions: 3 passed")
+        hold(night(folder, "--out", folder / "results"), 0, "^2 cabins, 3 sessions: 3 passed", "no session is left")
+        assert all(one["name"].isprintable() for one in told(folder / "results")["sessions"])
+        check_page(folder / "results")
+
+
+# ---- going on
+
+@case("what is finished is not run again: only new bytes, another program; a session that moves to another day leaves the old one")
+def _():
+    with room() as (folder, results):
+        counter = Counter(folder.parent)
+        made(folder, {f"a/{k}": session(1, k) for k in range(4)})
+        hold(night(folder, "--out", results, refly=counter.words), 0)
+        assert counter.starts() == 4
+        before = texts(results)
+        hold(night(folder, "--out", results, refly=counter.words), 0, "4 passed", "no session is left")
+        assert counter.starts() == 0 and texts(results) == before
+        made(folder, {"a/2": session(7, 0)})
+        hold(night(folder, "--out", results, "--list", refly=counter.words), 0, "^a/2\n$")
+        hold(night(folder, "--out", results, "--status", refly=counter.words), 0, "^3 done, 1 left, 0 failed, 0 broken, no run is going\n$")
+        hold(night(folder, "--out", results, refly=counter.words), 0)
+        assert counter.starts() == 1 and not (results / "a" / "day-1" / "2.txt").exists() and (results / "a" / "day-7" / "2.txt").exists()
+        made(folder, {"a/2": session(1, 2)})
+        hold(night(folder, "--out", results, refly=counter.words), 0)
+        assert counter.starts() == 1 and texts(results) == before and not (results / "a" / "day-7").exists(), "an empty day stays"
+        with open(counter.path, "a") as file:
+            file.write("# another program\n")
+        hold(night(folder, "--out", results, refly=counter.words), 0)
+        assert counter.starts() == 4
+        (folder / "a" / "3.bin").unlink()
+        hold(night(folder, "--out", results, refly=counter.words), 0, "4 passed")
+        assert counter.starts() == 0 and texts(results) == before, "a session that has gone keeps its result"
+
+
+@case("half a result, half a note, a result without its note: run again")
+def _():
+    with room() as (folder, results):
+        counter = Counter(folder.parent)
+        made(folder, {f"a/{k}": session(1, k) for k in range(5)})
+        hold(night(folder, "--out", results, refly=counter.words), 0)
+        before, day, notes = texts(results), results / "a" / "day-1", results / ".night" / "a"
+        counter.starts()
+        (day / "0.txt").write_bytes((day / "0.txt").read_bytes()[:-20])
+        (day / "1.txt").unlink()
+        (notes / "2.key").write_bytes((notes / "2.key").read_bytes()[:-5])
+        (notes / "3.key").unlink()
+        (day / ".night-1-half").write_bytes(b"half")
+        hold(night(folder, "--out", results, "--report", refly=counter.words), 1, "1 passed, 0 failed, 0 broken; 4 not run yet")
+        hold(night(folder, "--out", results, refly=counter.words), 0)
+        assert counter.starts() == 4 and texts(results) == before
+
+
+def finished(results):
+    """The results that have their note and are not broken."""
+    for path in results.glob(".night/*/*.key"):
+        note = json.loads(path.read_text())
+        if note["verdict"] != "broken":
+            yield results / note["cabin"] / f"day-{'none' if note['day'] is None else note['day']}" / f"{note['name']}.txt"
+
+
+def killed_and_resumed(folder, results, refly, most, seconds):
+    """Kills a run at random points, some of its kin with it, until one ends; what was finished at a kill must not be run again."""
+    kills = 0
+    while True:
+        stamps = {path: path.stat().st_mtime_ns for path in finished(results)}
+        run = start(folder, "--out", results, refly=refly, start_new_session=True)
+        try:
+            run.wait(timeout=DICE.uniform(0.05, seconds) if kills < most else None)
+        except subprocess.TimeoutExpired:
+            if DICE.randrange(2):
+                os.killpg(run.pid, DICE.choice((signal.SIGKILL, signal.SIGTERM, signal.SIGINT, signal.SIGHUP)))
+            else:
+                run.kill()
+        run.communicate(timeout=60)
+        assert all(path.stat().st_mtime_ns == stamp for path, stamp in stamps.items()), "a finished session was run again"
+        if run.returncode in (0, 1):
+            return kills, run.returncode
+        assert run.returncode in (2, -signal.SIGKILL, -signal.SIGTERM, -signal.SIGINT, -signal.SIGHUP), run.returncode
+        kills += 1
+
+
+@case("killed at random points and started again, it ends as one that was not")
+def _():
+    with room() as (folder, results):
+        nine(folder)
+        made(folder, {f"cabin-{k % 9 + 1}/more {k}": session(6, k * HOUR % DAY, 60) for k in range(18)})
+        kills, status = killed_and_resumed(folder, results, None, 8, 0.9)
+        assert status == 1 and kills, (status, kills)
+        other = folder.parent / "other"
+        hold(night(folder, "--out", other), 1)
+        assert texts(results) == texts(other), "it ends as another"
+        assert not list(results.rglob(".night-*")), "half a file is left"
+
+
+@case("told to end: 2, no verdict of what was running, and no program is left behind")
+def _():
+    with room() as (folder, results):
+        counter = Counter(folder.parent, {len(session(1, 0)): f"echo $$ >>{folder.parent}/pids; sleep 77"})
+        made(folder, {"a/x": session(1, 0), "a/y": session(1, 1)})
+        run = start(folder, "--out", results, refly=counter.words)
+        pids = folder.parent / "pids"
+        wait_for(lambda: pids.exists() and len(pids.read_text().split()) == 2)
+        run.send_signal(signal.SIGTERM)
+        _, said = run.communicate(timeout=20)
+        assert run.returncode == 2 and "it was stopped" in said, (run.returncode, said)
+        assert not list(results.glob("a/*/*")), "a verdict of what was ended"
+        wait_for(lambda: not any(map(alive, pids.read_text().split())))
+
+
+@case("interrupted at any point: 0 or 1 only where the report was made")
+def _():
+    with room() as (folder, results):
+        made(folder, {f"a/{k}": session(1, k) for k in range(6)})
+        ends = []
+        for k in range(10):
+            shutil.rmtree(results, ignore_errors=True)
+            run = subprocess.Popen([ROOT / "cabin", "night", folder, "--out", results], stdout=subprocess.PIPE, stderr=subprocess.PIPE, text=True, start_new_session=True)
+            time.sleep(0.06 * k)
+            with contextlib.suppress(ProcessLookupError):
+                os.killpg(run.pid, signal.SIGINT)
+            wrote, said = run.communicate(timeout=60)
+            assert run.returncode not in (0, 1) or "6 passed" in wrote, (run.returncode, said)
+            ends.append(run.returncode)
+        assert 2 in ends, ends
+
+
+def alive(pid):
+    """Whether a process is there and goes on."""
+    try:
+        return pathlib.Path(f"/proc/{pid}/stat").read_text().rsplit(")", 1)[1].split()[0] not in "ZX"
+    except OSError:
+        return False
+
+
+def wait_for(ready):
+    until = time.monotonic() + 20
+    while not ready():
+        assert time.monotonic() < until, "it did not come"
+        time.sleep(0.02)
+
+
+@case("twice at once: the second says so and ends with 2, so does a single session; --status tells how far the first is")
+def _():
+    with room() as (folder, results):
+        counter = Counter(folder.parent, {len(session(1, 0)): f"while [ ! -e {folder.parent}/go ]; do sleep 0.05; done"})
+        made(folder, {"a/x": session(1, 0), "a/y": session(1, 0, None, (1.0,)), "a/z": session(1, 0, None, (1000.0,))})
+        first = start(folder, "--out", results, refly=counter.words)
+        wait_for(lambda: len(list(results.glob(".night/a/*.key"))) == 2)
+        hold(night(folder, "--out", results, refly=counter.words), 2, "^$", "another run has")
+        hold(night(folder, "--out", results, "--one", "a/x", refly=counter.words), 2, "^$", "another run has")
+        hold(night(folder, "--out", results, "--report", refly=counter.words), 2, "^$", "another run has")
+        hold(night(folder, "--out", results, "--status", refly=counter.words), 0, r"^2 done, 1 left, 1 failed, 0 broken, .* left\n$|^2 done, 1 left, 1 failed, 0 broken\n$")
+        (folder.parent / "go").touch()
+        wrote, said = first.communicate(timeout=20)
+        hold((first.returncode, wrote, said), 1, "2 passed, 1 failed")
+
+
+@case("single sessions go side by side, and no whole run with them")
+def _():
+    with room() as (folder, results):
+        slow, quick = session(1, 0), session(1, 0, None, (1.0,))
+        counter = Counter(folder.parent, {len(slow): f"touch {folder.parent}/begun; while [ ! -e {folder.parent}/go ]; do sleep 0.05; done"})
+        made(folder, {"a/slow": slow, "a/quick": quick})
+        first = start(folder, "--out", results, "--one", "a/slow", refly=counter.words)
+        wait_for((folder.parent / "begun").exists)
+        hold(night(folder, "--out", results, "--one", "a/quick", refly=counter.words), 0, "^a/quick: passed\n$")
+        hold(night(folder, "--out", results, refly=counter.words), 2, "^$", "another run has")
+        (folder.parent / "go").touch()
+        wrote, said = first.communicate(timeout=20)
+        hold((first.returncode, wrote, said), 0, "^a/slow: passed\n$")
+        assert counter.starts() == 2
+
+
+# ---- what can break
+
+BROKEN = {  # by how many marks: what the program does, and the words
+    4: ("sleep 77 & echo $$ $! >>@/pids; sleep 78", r"no answer in 1 s"),
+    5: ("kill -SEGV $$", r"the program died of signal 11"),
+    6: ("echo 'no such thing' >&2; exit 3", r"the program ended with status 3: no such thing"),
+    7: ("echo 'standard output: it is late' >&2; exit 0", r"the program says: standard output: it is late"),
+    8: ("echo 'day cs vehicle kind result'; printf '1 0 0 sta'; exit 0", r"the program's answer was cut short"),
+    9: ("printf 'day cs vehicle kind result\\n1 x 0 state set\\nvehicle 0 unset\\nvehicle 1 unset\\n'; exit 0", r"the program's answer cannot be read"),
+    10: ("printf '\\377'; exit 0", r"the program's answer cannot be read"),
+    11: ("exit 0", r"the program's answer was cut short"),
+}
+
+
+@case("a program that hangs, dies, complains, or is cut: broken, under the day of its listing, the others run; tried again next time")
+def _():
+    with room() as (folder, results):
+        sizes = {count: session(3, 0, 60, (1.0,) * count) for count in BROKEN}
+        counter = Counter(folder.parent, {len(sizes[count]): what.replace("@", str(folder.parent)) for count, (what, _) in BROKEN.items()})
+        made(folder, {f"a/{count}": data for count, data in sizes.items()})
+        made(folder, {"b/good": session(3, 0), "b/bad": b"bad"})
+        hold(night(folder, "--out", results, "--patience", "1", refly=counter.words), 1, f"1 passed, 1 failed, {len(BROKEN)} broken")
+        got = verdicts(results)
+        for count, (_, words) in BROKEN.items():
+            one = got[f"a/{count}"]
+            assert one["verdict"] == "broken" and one["day"] == 3 and re.fullmatch(words, one["reason"]), one
+            assert (results / "a" / "day-3" / f"{count}.txt").read_text() == f"verdict broken {one['reason']}\n"
+        check_page(results)
+        pids = (folder.parent / "pids").read_text().split()
+        assert len(pids) == 2, pids
+        wait_for(lambda: not any(map(alive, pids)))
+        counter.starts()
+        (folder / "a" / "4.bin").unlink()
+        hold(night(folder, "--out", results, refly=counter.words), 1)
+        assert counter.starts() == len(BROKEN) - 1, "what was broken is tried again, and nothing else"
+
+
+@case("a disk that is full: 2, nothing by halves, and a rerun goes on")
+def _():
+    def small():
+        resource.setrlimit(resource.RLIMIT_FSIZE, (1500, 1500))
+    with room() as (folder, results):
+        made(folder, {"a/small": session(1, 0, None, (1.0,)), "a/tall": session(1, 0, None, (1.0,) * 40), "b/small": session(2, 0, None, (1.0,))})
+        hold(night(folder, "--out", results, "--jobs", "1", preexec_fn=small), 2, "^$", "File too large: nothing is lost")
+        assert not list(results.rglob("tall.*")) and not list(results.rglob(".night-*")) and not (results / "report.json").exists()
+        hold(night(folder, "--out", results), 0, "3 passed")
+        before = {name: data for name, data in texts(results).items() if name.startswith("report.")}
+        made(folder, {"b/more": session(2, 0, None, (2.0,))})
+        hold(night(folder, "--out", results, preexec_fn=small), 2, "^$", "report.html: File too large")
+        after = texts(results)
+        assert "b/day-2/more.txt" in after and all(after[name] == data for name, data in before.items() if name != "report.txt"), "a report by halves"
+        hold(night(folder, "--out", results), 0, "4 passed", "no session is left")
+        if os.getuid() == 0 and subprocess.run(["unshare", "-m", "true"], capture_output=True).returncode == 0:
+            full_disk(folder, folder.parent / "disk")
+        else:
+            NOT_RUN.append("a full disk: no file system can be mounted here")
+
+
+def full_disk(folder, disk):
+    """A real disk with too little room, then enough."""
+    disk.mkdir()
+    made(folder, {f"c/{k}": session(1, k, None, (1.0,) * 300) for k in range(12)})
+    script = ('mount -t tmpfs -o size=200k none "$1" || exit 77; "$2" "$3" "$4" --out "$1/results"; echo "first $?"; '
+              'ls "$1/results/c/day-1" | wc -l; find "$1" -name ".night-*"; mount -o remount,size=20m "$1"; "$2" "$3" "$4" --out "$1/results"; echo "then $?"')
+    ran = subprocess.run(["unshare", "-m", "bash", "-c", script, "x", disk, sys.executable, NIGHT, folder], capture_output=True, text=True, env=environment())
+    if ran.returncode == 77:
+        return NOT_RUN.append("a full disk: no file system can be mounted here")
+    lines = ran.stdout.split("\n")
+    assert lines[0] == "first 2" and 0 < int(lines[1]) < 12 and "16 passed" in lines[2] and lines[3] == "then 0", ran
+    assert "No space left" in ran.stderr, ran
+    return None
+
+
+@case("a session and a cabin that may not be read: broken, and 2 for the cabin, with the others run")
+def _():
+    python = "/usr/bin/python3"
+    if os.getuid() == 0 and not os.path.exists(python):
+        return NOT_RUN.append("what may not be read: no python3 that all may use")
+    with room() as (folder, results):
+        made(folder, {"a/secret": session(1, 0), "a/good": session(1, 0), "b/x": session(1, 0)})
+        (folder / "a" / "secret.bin").chmod(0)
+        tools = folder.parent / "tools"
+        shutil.copytree(ROOT / "tools" / "night", tools / "night", ignore=shutil.ignore_patterns("__pycache__"))
+        shutil.copy(NIGHT, tools)
+        for name in ("refly", "listing"):
+            shutil.copy(command(name)[-1], tools / name)
+        results.mkdir()
+        results.chmod(0o777)
+        folder.parent.chmod(0o755)
+        env = environment()
+        for name in ("refly", "listing"):
+            env[f"CABIN_{name.upper()}"] = "\n".join([*command(name)[:-1], str(tools / name)])
+        mine = {"user": NOBODY, "group": NOBODY, "extra_groups": []} if os.getuid() == 0 else {}
+        run = lambda: subprocess.run([python, tools / "night.py", folder, "--out", results], capture_output=True, text=True, env=env, cwd="/", **mine)
+        ran = run()
+        hold((ran.returncode, ran.stdout, ran.stderr), 1, "2 passed, 0 failed, 1 broken")
+        assert verdicts(results)["a/secret"]["reason"] == "it cannot be read: Permission denied"
+        (folder / "b").chmod(0)
+        ran = run()
+        hold((ran.returncode, ran.stdout, ran.stderr), 2, "1 broken", "b cannot be read: its sessions are not run")
+    return None
+
+
+# ---- one by one
+
+@case("--list, --one and --report, two at once, make what a whole run makes; so does GNU parallel")
+def _():
+    with room() as (folder, results):
+        nine(folder)
+        hold(night(folder, "--out", results), 1)
+        lines = on_page("With GNU parallel").replace(":,bench-2,bench-3", ":").replace("/srv/cabin", str(ROOT)).replace("/srv/sessions", str(folder))
+        spread = {"xargs": re.sub(r"parallel .* --workdir \S+", "xargs -d '\\\\n' -P 2 -I {}", lines)}
+        if shutil.which("parallel"):
+            spread["parallel"] = lines
+        else:
+            NOT_RUN.append("GNU parallel: it is not installed; xargs -P 2 was run in its place")
+        for name, script in spread.items():
+            other = folder.parent / name
+            ran = subprocess.run(["bash", "-c", script.replace("/srv/results", str(other))], capture_output=True, text=True)
+            assert ran.returncode == 1 and "cabin-5/cut: failed refused 11 at 184" in ran.stdout, ran
+            assert texts(other) == texts(results), name
+        hold(night(folder, "--out", results, "--one", "cabin-1/good"), 0, "^cabin-1/good: passed\n$")
+        hold(night(folder, "--out", results, "--one", "cabin-3/off"), 1, "^cabin-3/off: failed record 4 off")
+        hold(night(folder, "--out", results, "--one", "cabin-9/a pipe"), 1, "broken it cannot be read")
+        hold(night(folder, "--out", results, "--one", "cabin-3/none"), 2, "^$", "there is no session")
+
+
+def on_page(ahead):
+    """The indented block of the night's page behind some words."""
+    text = (ROOT / "docs" / "pages" / "night.md").read_text().split(ahead, 1)[1]
+    block = re.search(r"\n\n((?:    .*\n|\n(?=    ))+)", text)[1]
+    return re.sub(r"^    ", "", block, flags=re.M)
+
+
+@case("the page's cron line does its work, and its units are well-formed")
+def _():
+    with room() as (folder, results):
+        made(folder, {"a/x": session(1, 0)})
+        here = lambda text: text.replace("/srv/cabin", str(ROOT)).replace("/srv/sessions", str(folder)).replace("/srv/results", str(results))
+        path, line = here(on_page("With cron,")).strip("\n").split("\n")
+        fields = line.split(" ", 5)
+        assert fields[:5] == ["0", "20-23,0-5", "*", "*", "*"]
+        ran = subprocess.run(["env", "-i", path, f"HOME={folder.parent}", "/bin/sh", "-c", fields[5]], capture_output=True, text=True)
+        assert ran.returncode == 0 and "1 passed" in pathlib.Path(f"{results}.log").read_text(), ran
+        if not shutil.which("systemd-analyze"):
+            return NOT_RUN.append("the page's units: no systemd-analyze here")
+        units = {"cabin-night.service": "cabin-night.service`:", "cabin-night.timer": "cabin-night.timer`:"}
+        for name, ahead in units.items():
+            (folder.parent / name).write_text(here(on_page(ahead)).replace("User=cabin", "User=root"))
+        ran = subprocess.run(["systemd-analyze", "verify", "--man=no", *(folder.parent / name for name in units)], capture_output=True, text=True)
+        wrong = [line for line in ran.stderr.split("\n") if "cabin-night" in line]
+        assert ran.returncode == 0 and not wrong, ran
+    return None
+
+
+@case("report.html in a real browser: the table is report.json's, and nothing is fetched")
+def _():
+    if not shutil.which("chromium"):
+        return NOT_RUN.append("report.html in Chromium: it is not installed")
+    with room() as (folder, results):
+        nine(folder)
+        hold(night(folder, "--out", results), 1)
+        for width in (400, 1400):
+            log = folder.parent / f"net-{width}"
+            ran = subprocess.run(["chromium", "--headless=new", "--no-sandbox", "--disable-gpu", "--disable-background-networking", "--disable-component-update", "--no-first-run", f"--user-data-dir={folder.parent}/profile", f"--window-size={width},900", f"--log-net-log={log}", "--dump-dom", (results / "report.html").as_uri()], capture_output=True, text=True, timeout=120)
+            assert ran.returncode == 0 and len(ran.stdout) > 1000, ran.stderr[-500:]
+            (results / "report.html").write_text(ran.stdout)  # the page's own DOM, held as the file is
+            check_page(results)
+            assert not re.search(r'"url":"https?:', log.read_text(errors="replace")), "something was fetched"
+    return None
+
+
+# ---- a year
+
+def year(nights=365):
+    """Nine cabins; every night each has up to two sessions more, one in ten damaged; the run is killed at random points."""
+    with room() as (folder, results):
+        wanted, kills, began = {}, 0, time.monotonic()
+        for day in range(nights):
+            fresh = {}
+            for cabin in range(1, 10):
+                for k in range(DICE.randrange(3)):
+                    name, tail = f"cabin-{cabin}/night-{day}-{k}", DICE.choice([b""] * 9 + [b"\0\0\0\0"])
+                    fresh[name] = session(day, DICE.randrange(DAY), DICE.choice((None, 120, -840, 840)), (1.0,) * DICE.randrange(1, 6), tail)
+                    wanted[name] = day, "failed" if tail else "passed"
+            made(folder, fresh)
+            more, _ = killed_and_resumed(folder, results, None, DICE.randrange(3), 1.0)
+            kills += more
+            if day % 30 == 29 or day == nights - 1:
+                got = {name: (one["day"], one["verdict"]) for name, one in verdicts(results).items()}
+                assert got == wanted, set(got.items()) ^ set(wanted.items())
+                assert len(list(results.glob("*/day-*/*"))) == len(wanted)
+                check_page(results)
+                print(f"night {day + 1}: {len(wanted)} sessions, {kills} kills, {time.monotonic() - began:.0f} s, report.html {(results / 'report.html').stat().st_size:,} bytes", flush=True)
+    print(f"{nights} nights, {len(wanted)} sessions, {kills} kills, seed {SEED}: nothing lost, nothing run twice")
+    return 0
+
+
+@case("a few nights, the run killed at random points: nothing is lost, nothing run twice")
+def _():
+    year(5)
+
+
+def main(words=""):
+    failed = 0
+    chosen = [(name, function) for name, function in CASES if words in name]
+    for name, function in chosen:
+        began = time.monotonic()
+        try:
+            function()
+        except Exception as error:  # a case that fails in any way
+            failed += 1
+            print(f"FAILED: {name}: {type(error).__name__}: {error}")
+        if os.environ.get("CABIN_TIMES"):
+            print(f"{time.monotonic() - began:5.1f} s {name}", flush=True)
+    for words in NOT_RUN:
+        print(f"not run: {words}")
+    print(f"{len(chosen)} cases of the night run, seed {SEED}: {failed} failed, {len(NOT_RUN)} parts not run")
+    return 1 if failed else 0
+
+
+if __name__ == "__main__":
+    sys.exit(year(*map(int, sys.argv[2:])) if sys.argv[1:2] == ["--year"] else main(*sys.argv[1:]))
