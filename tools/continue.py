@@ -13,6 +13,7 @@ import sys
 import time
 
 SHOWN = 10
+LONGEST = 800  # with what is put behind it, a line stays within the desk's 1,000 bytes
 
 
 def answers(desk, lines):
@@ -31,7 +32,7 @@ def fresh(second, count, seed):
     made = subprocess.run([program, "requests", str(seed), str(8 * count + 8000)], stdout=subprocess.PIPE, check=True)
     lines = made.stdout.decode("latin-1").split("\n")
     solves = [" ".join(line.split()) for line in lines if line.startswith(("kepler ", "lambert ")) and line.isprintable()]
-    alone = [line for line in solves if not {"from", "limit", "version"} & set(line.split())]
+    alone = [line for line in solves if len(line) <= LONGEST and not {"from", "limit", "version"} & set(line.split())]
     return alone[-count:]
 
 
