@@ -470,7 +470,7 @@ def _():
 ASKED = b"kepler 39860120000 6678140 0 0 0 77.258 0 1"
 
 
-@case("the desk: a version's grade; the settings are read once, and looked at only where a version is named")
+@case("the desk: a version's grade; the settings are looked at only where a version is named")
 def _():
     with tempfile.TemporaryDirectory() as room:
         room = pathlib.Path(room)
@@ -494,6 +494,27 @@ def _():
         for damaged in (whole[:-1], whole + b"\0", whole[44:], full + b"\0", full + version(65, *EARTH)[0], full + full):
             file.write_bytes(damaged)
             hold(front("desk", file, given=ASKED + b" version 1\nkepler 0 0 0 0 0 0 0 0 version 9\n" + ASKED + b"\n"), 0, b"refused 30\n" * 2 + plain[1])
+
+
+@case("the desk reads the settings once: what is stored later does not alter a run")
+def _():
+    with tempfile.TemporaryDirectory() as room:
+        file = pathlib.Path(room) / "settings"
+        hold(store(file, *EARTH), 0)
+        desk = subprocess.Popen([ROOT / "cabin", "desk", file], stdin=subprocess.PIPE, stdout=subprocess.PIPE)
+
+        def ask(number):
+            desk.stdin.write(ASKED + b" version %d\n" % number)
+            desk.stdin.flush()
+            return desk.stdout.readline()
+        first = ask(1)
+        assert b" grade fair " in first and ask(2) == b"refused 23\n"
+        hold(front("settings", file, "back", "1"), 0)
+        assert ask(2) == b"refused 23\n"
+        file.unlink()
+        assert ask(1) == first
+        desk.communicate(timeout=60)
+        assert desk.returncode == 0
 
 
 @case("the desk by settings that cannot be read: 2, and nothing is answered; a pipe has settings as a file has")
