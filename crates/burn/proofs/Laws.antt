@@ -169,8 +169,8 @@ at-other mu s from to n e h = go (elapsedOf from to) e
 told-other : (s : State) (r : Reached) (n : ℕ) → Theta.toldOf s r ≡ Th.Refused n → ⊥
 unfolding Theta.toldOf
 told-other s (R.Time t) n e = let z : _≡_ {A = ℕ} 0 1 = cc in absurd (zero-one z)
-told-other s R.Under n e = let z : _≡_ {A = ℕ} 0 1 = cc in absurd (zero-one z)
-told-other s R.Over n e = let z : _≡_ {A = ℕ} 0 1 = cc in absurd (zero-one z)
+told-other s (R.Under q) n e = let z : _≡_ {A = ℕ} 0 1 = cc in absurd (zero-one z)
+told-other s (R.Over q) n e = let z : _≡_ {A = ℕ} 0 1 = cc in absurd (zero-one z)
 
 theta-other : (mu : Float) (s : State) (sin cos : Float) (n : ℕ) → Theta.thetaOf mu s sin cos ≡ Th.Refused n → n ≡ 28 → ⊥
 unfolding Theta.answered Tests.numberOf

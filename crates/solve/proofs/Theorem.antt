@@ -56,13 +56,13 @@ judge-carries (Kepler m) asked n = by-trial _
   where
     by-trial : (r : Trial) → carriedBy (judgedTrial asked r) ≡ timedTrial r
     by-trial (T.At p) = unfold judgedTrial timedTrial in judged-carries asked (p .t)
-    by-trial T.Out = unfold judgedTrial timedTrial in refl
+    by-trial (T.Out e) = unfold judgedTrial timedTrial in refl
 judge-carries (Lambert d) asked n = by-reach _
   where
     by-reach : (r : Reached) → carriedBy (judgedReach asked r) ≡ timedReach r
     by-reach (R.Time t) = unfold judgedReach timedReach in judged-carries asked t
-    by-reach R.Under = unfold judgedReach timedReach in refl
-    by-reach R.Over = unfold judgedReach timedReach in refl
+    by-reach (R.Under e) = unfold judgedReach timedReach in refl
+    by-reach (R.Over e) = unfold judgedReach timedReach in refl
 
 held-carries : (problem : Problem) (asked : Float) (n : ℤ) → carriedBy (heldOf problem asked n) ≡ timeAt problem n
 unfolding heldOf timeAt

@@ -125,8 +125,8 @@ fn told(s: State, r: Reached) -> TransferTime
 {
     match r {
         Reached::Time(time) => TransferTime::Time(Timed { time, state: s }),
-        Reached::Under => TransferTime::TooShort,
-        Reached::Over => TransferTime::TooLong,
+        Reached::Under(_) => TransferTime::TooShort,
+        Reached::Over(_) => TransferTime::TooLong,
     }
 }
 
