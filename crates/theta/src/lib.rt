@@ -105,7 +105,7 @@ pub fn tests(mu: f64, s: State, sin: f64, cos: f64, d: Sweep) -> Test
 }
 
 // What steps 4 to 7 are given.
-fn arc_of(mu: f64, d: Sweep) -> Arc
+pub fn arc_of(mu: f64, d: Sweep) -> Arc
     ensures { λ r. ⌜ r ≡ arcOf mu d ⌝ }
 {
     Arc {
