@@ -31,7 +31,8 @@ use Rattle.kepler.proofs.Laws.{FiniteState, kepler-table}
 use Rattle.solve.specs.declared.Advanced.{Advanced}
 use Rattle.solve.specs.declared.Advanced.the-variants as Ad
 use Rattle.solve.specs.declared.Solution.{Solution}
-use Rattle.solve.specs.Answers.{motionFor, turnsFor, advanceOf, advancedNumber}
+use Rattle.solve.specs.Ends.{motionFor, turnsFor}
+use Rattle.solve.specs.Answers.{advanceOf, advancedNumber}
 use Rattle.solve.proofs.Finite.{advance-finite}
 use Rattle.solve.proofs.Numbers.{timed, afterTrials, arrives, advance-number}
 use Rattle.reach.specs.declared.Reached.{Reached}

@@ -16,7 +16,7 @@ use Rattle.kepler.specs.Kepler.{trialAt, judgedTrial, keplerJudge}
 use Rattle.problem.specs.Problems.{startOf, heldOf, lastOf}
 use Rattle.problem.specs.declared.Problem.the-variants.{Kepler}
 use Rattle.solve.proofs.Asked.{Asked}
-use Rattle.solve.proofs.Ended.{last-sound, held-below}
+use Rattle.solve.proofs.Last.{last-sound, held-below}
 
 abbrev NotUnder : Judgement → Type 0
 NotUnder (Low t) = Prim.Unit
