@@ -11,6 +11,20 @@
 
 enum grade { CLOSED, FAIR, ROUGH };
 
+/* Of the size of the time asked for: an err of at most the one is closed, of at most the other fair. */
+typedef struct { double closed, fair; } fractions;
+
+/* The terms of a solve: the run that it goes on from, if any, and the greatest count (02, T-14); the version of the
+ * settings that is named, if any (T-11), and the fractions of the grades. */
+typedef struct {
+    bool continued, versioned;
+    bracket from;
+    uint64_t limit, version;
+    fractions grades;
+} terms;
+
+static const terms usual_terms = { .limit = UINT64_MAX, .grades = { 0x1p-20, 0x1p-10 } };
+
 typedef struct {
     int refused;
     bracket at; /* the neighbours, or where 29 stopped */

@@ -59,7 +59,10 @@ static bool read_terms(reader *from, terms *out)
     out->continued = next_is(from, "from");
     if (out->continued && !read_stopped_run(from, &out->from))
         return false;
-    return !next_is(from, "limit") || read_count(next_word(from), &out->limit);
+    if (next_is(from, "limit") && !read_count(next_word(from), &out->limit))
+        return false;
+    out->versioned = next_is(from, "version");
+    return !out->versioned || read_count(next_word(from), &out->version);
 }
 
 static bool read_part(char letter, reader *from, word *out)
@@ -210,13 +213,30 @@ static state state_at(const word *w)
     return (state){ vector_at(w), vector_at(w + 3) };
 }
 
+/* 30 and 23 go ahead of a solve's own refusals. */
+
+static solution advance_asked(const word *w, const settings *kept)
+{
+    terms on = w[8].terms;
+    int refused = take_fractions(kept, &on);
+    return refused ? (solution){ .refused = refused } : advance_state(w[0].number, state_at(w + 1), w[7].number, on);
+}
+
+static solution transfer_asked(const word *w, const settings *kept)
+{
+    terms on = w[9].terms;
+    int refused = take_fractions(kept, &on);
+    return refused ? (solution){ .refused = refused }
+                   : transfer_velocity(w[0].number, vector_at(w + 1), vector_at(w + 4), w[7].number, w[8].way, on);
+}
+
 static cdh_answer cdh_of(const word *w)
 {
     timed_state active = { state_at(w + 3), w[9].whole }, passive = { state_at(w + 10), w[16].whole };
     return cdh(w[0].count, w[1].number, w[2].number, active, passive, w[17].whole, w[18].whole);
 }
 
-void answer_request(const request *asked, char out[ANSWER_MAX])
+void answer_request(const request *asked, const settings *kept, char out[ANSWER_MAX])
 {
     const word *w = asked->words;
     pen p = { out };
@@ -234,12 +254,10 @@ void answer_request(const request *asked, char out[ANSWER_MAX])
         say_trial(&p, w);
         break;
     case KEPLER:
-        say_solution(&p, true, advance_state(w[0].number, state_at(w + 1), w[7].number, w[8].terms));
+        say_solution(&p, true, advance_asked(w, kept));
         break;
     case LAMBERT:
-        say_solution(&p, false,
-                     transfer_velocity(w[0].number, vector_at(w + 1), vector_at(w + 4), w[7].number, w[8].way,
-                                       w[9].terms));
+        say_solution(&p, false, transfer_asked(w, kept));
         break;
     case THETA:
         say_number(&p, "time D", time_theta(w[0].number, state_at(w + 1), w[7].number, w[8].number));
@@ -258,10 +276,10 @@ void answer_request(const request *asked, char out[ANSWER_MAX])
     }
 }
 
-void answer_line(int unread, const request *asked, char out[ANSWER_MAX])
+void answer_line(int unread, const request *asked, const settings *kept, char out[ANSWER_MAX])
 {
     if (unread == READ)
-        answer_request(asked, out);
+        answer_request(asked, kept, out);
     else
         sprintf(out, "unread %d", unread);
 }

@@ -4,13 +4,14 @@
 
 #include "conic.h"
 #include "iterator.h"
+#include "settings.h"
 #include "words.h"
 
 enum routine { ROOT, C, S, TRIAL, KEPLER, LAMBERT, THETA, APSIDES, WHEEL, SIGHT, CDH, ROUTINES };
 
 /* A routine's name and a letter for each word behind it:
  * n a number, i a whole number (i64), k a count (u64), j a judgement, w the way round: short, long, or normal and three
- * numbers, t the terms, each of which may be left out: from and a stopped run, limit and a count. */
+ * numbers, t the terms, each of which may be left out: from and a stopped run, limit and a count, version and a count. */
 typedef struct { const char *name, *words; } form;
 
 extern const form forms[ROUTINES];
@@ -32,7 +33,7 @@ typedef struct { enum routine routine; word words[WORDS_MAX]; } request;
 int read_request(const char *line, size_t length, request *out);
 
 /* Both without a newline. */
-void answer_request(const request *asked, char out[ANSWER_MAX]);
-void answer_line(int unread, const request *asked, char out[ANSWER_MAX]);
+void answer_request(const request *asked, const settings *kept, char out[ANSWER_MAX]);
+void answer_line(int unread, const request *asked, const settings *kept, char out[ANSWER_MAX]);
 
 #endif

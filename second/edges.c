@@ -128,6 +128,19 @@ const char *const edges[] = {
     "lambert 1 4194304 0 0 -4194304 0 0 400000 normal 0 0 1 from 0 low:x7FF0000000000000 1 over 0",
     "kepler 1 4194304 0 0 0 32 0 64 from 0 low:0 1 high:x7FF8000000000000 0",
 
+    /* T-11: a version named, alone and behind the other terms, with 23 ahead of a solve's own; 0, 64 and beyond */
+    "kepler 4294967296 4194304 0 0 0 32 0 64 version 1", "kepler 4294967296 4194304 0 0 0 32 0 900000 version 2",
+    "kepler 4294967296 4194304 0 0 0 32 0 64 version 0", "kepler 4294967296 4194304 0 0 0 32 0 64 version 64",
+    "kepler 4294967296 4194304 0 0 0 32 0 64 version 65", "kepler 4294967296 4194304 0 0 0 32 0 64 version 4294967297",
+    "kepler 4294967296 4194304 0 0 0 32 0 64 version 18446744073709551615",
+    "kepler 1 4194304 0 0 0 32 0 64 version 1", "kepler 4294967296 4194304 0 0 0 32 0 64 limit 6 version 1",
+    "kepler 4294967296 4194304 0 0 0 32 0 64 from 1048576 low:64 8589934592 high:524288 5 limit 9 version 3",
+    "kepler 4294967296 4194304 0 0 0 32 0 64 from 0 low:-0 137438953472 over 0 version 1",
+    "lambert 4294967296 4194304 0 0 0 4194304 0 200000 short version 1",
+    "lambert 4294967296 4194304 0 0 -4194304 0 0 400000 normal 0 0 1 version 2",
+    "lambert 4294967296 4194304 0 0 0 4194304 0 200000 long limit 14 version 1",
+    "lambert 4294967296 4194304 0 0 0 4194304 0 0 long version 1",
+
     /* Time-Theta: (cos²+sin²)−1 = 2^-40; 1−cos = 2^-20, then 6 */
     "theta 4294967296 4194304 0 0 0 32 0 x3EB0000000000000 -1",
     "theta 4294967296 4194304 0 0 0 32 0 x3F56A09E0BFCC17E x3FEFFFFE00000000",

@@ -22,11 +22,6 @@ typedef judgement judge(const void *problem, int64_t n);
 bool carries_time(judgement j);
 bool time_in_range(double t);
 
-/* The terms of a solve (02, T-14): the run that it goes on from, if any, and the greatest count. */
-typedef struct { bool continued; bracket from; uint64_t limit; } terms;
-
-static const terms usual_terms = { .limit = UINT64_MAX };
-
 /* Makes trials until lo and hi are neighbours or the count is at its limit. */
 bracket narrowed(bracket b, double asked, uint64_t limit, judge *judge, const void *problem);
 

@@ -103,7 +103,7 @@ solution advance_state(double mu, state from, double time, terms on)
     if (f.number)
         return (solution){ .refused = f.number };
     grid g = grid_of(&k);
-    solution found = closed_in(trials_made(&g, k.rest, &on), k.rest, k.size);
+    solution found = closed_in(trials_made(&g, k.rest, &on), k.rest, k.size, on.grades);
     if (found.refused)
         return found;
     state to = state_at(&k, ahead_of(from, time), found.n, found.time);

@@ -105,7 +105,7 @@ solution transfer_velocity(double mu, vector from, vector to, double time, way w
     if (f.number)
         return (solution){ .refused = f.number };
     grid g = grid_of(&l);
-    solution found = closed_in(trials_made(&g, time, &on), time, time);
+    solution found = closed_in(trials_made(&g, time, &on), time, time, on.grades);
     if (found.refused)
         return found;
     found.v = velocity_at(&l, found.n);

@@ -1,4 +1,4 @@
-/* What may stand behind an advance or a transfer: limits, and runs to go on from. */
+/* What may stand behind an advance or a transfer: runs to go on from, limits, and versions of the settings. */
 #include "makers.h"
 
 #include "conic.h"
@@ -159,4 +159,12 @@ void some_terms(request *q)
         break_a_test(q, &on->from);
     if (one_in(8)) /* the run of another time */
         q->words[7].number *= 1 + either_sign(scaled(-52, 0));
+}
+
+void some_version(request *q)
+{
+    static const uint64_t odd[] = { 0, 64, 65, UINT64_C(1) << 32 | 1, UINT64_C(1) << 63, UINT64_MAX };
+    terms *on = terms_of(q);
+    on->versioned = true;
+    on->version = one_in(4) ? odd[below(sizeof odd / sizeof *odd)] : 1 + below(one_in(2) ? 4 : 64);
 }

@@ -7,7 +7,7 @@
 #include <inttypes.h>
 #include <stdio.h>
 
-typedef struct { char words[24][72]; int count; } spelling;
+typedef struct { char words[32][72]; int count; } spelling;
 
 static void spell_number(char *out, double x, bool decimal)
 {
@@ -67,10 +67,14 @@ static void spell_terms(spelling *s, const terms *on, bool decimal)
 {
     if (on->continued)
         spell_stopped_run(s, &on->from, decimal);
-    if (on->limit == UINT64_MAX && !one_in(32))
-        return;
-    strcpy(new_word(s), "limit");
-    spell_count(new_word(s), on->limit);
+    if (on->limit != UINT64_MAX || one_in(32)) {
+        strcpy(new_word(s), "limit");
+        spell_count(new_word(s), on->limit);
+    }
+    if (on->versioned) {
+        strcpy(new_word(s), "version");
+        spell_count(new_word(s), on->version);
+    }
 }
 
 static void spell_part(spelling *s, char letter, const word *w, bool decimal)
@@ -138,15 +142,25 @@ const char *bad_word(void)
         "nan", "inf", "low:", "low", "low:-", "high:x", "high:1.", "LOW:1", "under:1", "over:", "under", "over",
         "high:-0", "low:+0.5", "18446744073709551615", "18446744073709551616", "9223372036854775807",
         "9223372036854775808", "-9223372036854775808", "-9223372036854775809", "+5", "-0", "5-", "\xCE\xBE",
-        "short", "long", "normal", "Short", "shorter", "#", "from", "limit", "From", "limits",
+        "short", "long", "normal", "Short", "shorter", "#", "from", "limit", "From", "limits", "version", "versions",
     };
     return bad[below(sizeof bad / sizeof *bad)];
+}
+
+/* Ahead of one of the last words, where it mostly cannot stand, or behind them all. */
+static void put_in_version(spelling *s)
+{
+    int behind = (int)below(s->count < 10 ? (uint64_t)s->count : 10), at = s->count - behind;
+    memmove(s->words[at + 2], s->words[at], (size_t)behind * sizeof *s->words);
+    s->count += 2;
+    strcpy(s->words[at], "version");
+    spell_count(s->words[at + 1], below(4));
 }
 
 static void spoil_words(spelling *s)
 {
     int k = (int)below((uint64_t)s->count);
-    switch (below(5)) {
+    switch (below(6)) {
     case 0:
         s->count = 1 + k; /* a missing word, or none missing */
         break;
@@ -155,6 +169,9 @@ static void spoil_words(spelling *s)
         break;
     case 2:
         strcpy(s->words[0], one_in(2) ? bad_word() : "Root");
+        break;
+    case 3:
+        put_in_version(s);
         break;
     default:
         strcpy(s->words[k], bad_word());

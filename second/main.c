@@ -8,15 +8,19 @@
 #include <stdlib.h>
 #include <string.h>
 
-static int desk(void)
+/* Without a file there is no version. */
+static int desk(const char *file)
 {
     char line[LINE_MAX], answer[ANSWER_MAX];
+    settings kept = { NULL, 0 };
+    if (file && !settings_if_any(file, &kept))
+        return 2;
     for (long length; (length = take_line(line, sizeof line)) >= 0;) {
         request asked;
         int unread = read_request(line, (size_t)length, &asked);
         if (unread == NOTHING)
             continue;
-        answer_line(unread, &asked, answer);
+        answer_line(unread, &asked, &kept, answer);
         puts(answer);
     }
     return 0;
@@ -35,7 +39,7 @@ static int run_bench(const char *name, uint64_t count)
 
 static int help(void)
 {
-    fputs("second desk                      a line in, a line out\n"
+    fputs("second desk [SETTINGS]           a line in, a line out\n"
           "second settings FILE WORD..      list, show K, store BODY MU RADIUS CLOSED FAIR, back K\n"
           "second list [FILE]               the listing of a session\n"
           "second show [FILE]               a session as text\n"
@@ -56,8 +60,8 @@ int main(int words, char **word)
     const char *what = words > 1 ? word[1] : "";
     uint64_t a = words > 2 ? strtoull(word[2], NULL, 10) : 0;
     uint64_t b = words > 3 ? strtoull(word[3], NULL, 10) : 0;
-    if (strcmp(what, "desk") == 0 && words == 2)
-        return desk();
+    if (strcmp(what, "desk") == 0 && words <= 3)
+        return desk(word[2]);
     if (strcmp(what, "settings") == 0 && words > 3)
         return settings_program(words - 2, word + 2);
     if (strcmp(what, "list") == 0 && words <= 3)

@@ -15,7 +15,8 @@ int watch(void);
 int settings_program(int words, char **word); /* FILE and what behind it */
 int replay_program(int words, char **word);
 
-/* The settings of a file that is there; says why not. */
+/* The settings of a file, with no version where it is not there, or of one that must be there; says why not. */
+bool settings_if_any(const char *name, settings *s);
 bool settings_of(const char *name, settings *s);
 
 void make_requests(uint64_t seed, uint64_t count);

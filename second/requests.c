@@ -9,6 +9,11 @@
 
 #include <stdio.h>
 
+static bool takes_terms(const request *q)
+{
+    return q->routine == KEPLER || q->routine == LAMBERT;
+}
+
 /* Edges. What a number of a solve stands for: mu, r a position, v a velocity, t a time, a an angle or a part of
  * a unit vector, s a surface radius; - no number. */
 
@@ -69,7 +74,7 @@ static request at_a_limit(request q)
 static void kind_of_answer(const request *q, const char *by, char kind[16])
 {
     char text[ANSWER_MAX];
-    answer_request(q, text);
+    answer_request(q, &(settings){ NULL, 0 }, text);
     const char *found = strstr(text, by);
     if (text[0] == 'r')
         snprintf(kind, 16, "%.15s", text);
@@ -111,9 +116,13 @@ static void emit(line l)
     left -= read_request(l.bytes, l.length, &q) != NOTHING;
 }
 
+/* A version is named by some of them, once their edges are found: without settings it is refused with 23. */
 static void emit_request(const request *q, bool decimal)
 {
-    emit(spelled_line(q, decimal));
+    request named = *q;
+    if (takes_terms(q) && one_in(12))
+        some_version(&named);
+    emit(spelled_line(&named, decimal));
 }
 
 /* A number of q changed by much: drawn anew, many times larger or smaller, or at a limit. */
@@ -163,8 +172,10 @@ static void emit_some(void)
     };
     if (one_in(20)) {
         request q = some_request((enum routine)below(ROUTINES));
-        if ((q.routine == KEPLER || q.routine == LAMBERT) && one_in(2))
+        if (takes_terms(&q) && one_in(2))
             some_terms(&q);
+        if (takes_terms(&q) && one_in(4))
+            some_version(&q);
         emit(spoilt_line(&q, one_in(4)));
         return;
     }
@@ -173,7 +184,7 @@ static void emit_some(void)
         return;
     }
     request q = some_request(often[below(sizeof often / sizeof *often)]);
-    if ((q.routine == KEPLER || q.routine == LAMBERT) && one_in(3))
+    if (takes_terms(&q) && one_in(3))
         some_terms(&q);
     if (!meanings[q.routine] || below(10) < 6)
         emit_request(&q, one_in(4));

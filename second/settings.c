@@ -85,6 +85,16 @@ versioned version_of(const settings *s, uint64_t number)
     return (versioned){ .number = number, .version = read_version(place_of(s, number)) };
 }
 
+int take_fractions(const settings *s, terms *on)
+{
+    if (!on->versioned)
+        return 0;
+    versioned named = version_of(s, on->version);
+    if (!named.refused)
+        on->grades = (fractions){ named.version.closed, named.version.fair };
+    return named.refused;
+}
+
 static versioned put_behind(settings *s, size_t size, uint64_t last, const version *v)
 {
     if (last == VERSIONS_MAX)

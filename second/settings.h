@@ -2,6 +2,7 @@
 #ifndef SETTINGS_H
 #define SETTINGS_H
 
+#include "conic.h"
 #include "pen.h"
 
 #include <stddef.h>
@@ -21,6 +22,10 @@ typedef struct { int refused; uint64_t number; version version; } versioned;
 versioned latest(const settings *s);
 
 versioned version_of(const settings *s, uint64_t number);
+
+/* Gives terms the fractions of the version that they name: 30 or 23, or 0. Where they name none the settings are not
+ * looked at. */
+int take_fractions(const settings *s, terms *on);
 
 /* Each stores one more than the latest in a buffer of so many bytes; a refusal changes none. */
 versioned store_version(settings *s, size_t size, const version *v);

@@ -61,7 +61,7 @@ judgement judged(flight f, double asked)
     return (judgement){ f.t <= asked ? LOW : HIGH, f.t };
 }
 
-solution closed_in(bracket b, double trials_time, double size)
+solution closed_in(bracket b, double trials_time, double size, fractions grades)
 {
     if (b.hi - b.lo > 1)
         return (solution){ .refused = 29, .at = b };
@@ -70,6 +70,6 @@ solution closed_in(bracket b, double trials_time, double size)
     if (!carries_time(b.above))
         return (solution){ .refused = 7, .at = b };
     double t = b.below.time, err = trials_time - t;
-    enum grade grade = err <= size * 0x1p-20 ? CLOSED : err <= size * 0x1p-10 ? FAIR : ROUGH;
+    enum grade grade = err <= size * grades.closed ? CLOSED : err <= size * grades.fair ? FAIR : ROUGH;
     return (solution){ .at = b, .n = b.lo, .count = b.count, .grade = grade, .time = t, .err = err };
 }

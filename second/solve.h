@@ -42,8 +42,8 @@ void continuation_tests(failure *f, const grid *g, const terms *on);
 bracket trials_made(const grid *g, double asked, const terms *on);
 
 /* The answer at the lower neighbour, still without an orbit, or 29, 8 or 7: the trials' time, and the size of
- * the time asked for, from which the grade's limits are taken. */
-solution closed_in(bracket b, double trials_time, double size);
+ * the time asked for, of which the grade's limits are fractions. */
+solution closed_in(bracket b, double trials_time, double size, fractions grades);
 
 /* Steps 4 to 7: what a transfer keeps from trial to trial; turn = sinθ/(1 − cosθ). */
 typedef struct { double r1, root_r1, root_mu, turn; } transfer;

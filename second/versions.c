@@ -10,8 +10,8 @@
 
 static uint8_t bytes[SETTINGS_MAX + 1];
 
-/* A file that is not there has no version; the first byte too many is enough to refuse one. */
-static bool load_settings(const char *name, settings *s)
+/* The first byte too many is enough to refuse a file. */
+bool settings_if_any(const char *name, settings *s)
 {
     *s = (settings){ bytes, 0 };
     return !exists(name) || load(name, bytes, sizeof bytes, &s->used);
@@ -99,7 +99,7 @@ int settings_program(int words, char **word)
     settings s;
     if (words < 2)
         return cannot_read("settings");
-    if (!load_settings(word[0], &s))
+    if (!settings_if_any(word[0], &s))
         return 2;
     if (strcmp(word[1], "list") == 0 && words == 2)
         return list_versions(&s);

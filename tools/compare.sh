@@ -1,8 +1,8 @@
 #!/usr/bin/env bash
 # compare.sh PART: the linked programs against the second program (second/). Parts: stored, requests (the stored requests and
 # fresh ones), stops (solves stopped by a limit and gone on with), sessions, texts, parts (fresh sessions listed, as text, and in
-# parts), settings, flights (sessions flown again); heights holds the constant-height burn to its sense. The seed of the fresh
-# ones is printed; CABIN_SEED=N makes the same again.
+# parts), settings, grades (solves graded by settings), flights (sessions flown again); heights holds the constant-height burn
+# to its sense. The seed of the fresh ones is printed; CABIN_SEED=N makes the same again.
 home=$(cd "$(dirname "${BASH_SOURCE[0]}")/.." && pwd -P)
 . "$home/tools/front.sh"
 cd "$home"
@@ -100,6 +100,12 @@ heights() {
 settings() {
     ready history
     python3 tools/settings.py ./cabin "$second" 12 "$seed"
+}
+
+# Solves graded by versions of settings, whole and damaged.
+grades() {
+    ready desk
+    python3 tools/grades.py ./cabin "$second" 1000 "$seed"
 }
 
 # Sessions flown again, with the usual constants, with others, and by settings.

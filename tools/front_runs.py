@@ -467,6 +467,73 @@ def _():
         assert file.read_bytes() == version(1, *EARTH)[0] + version(2, *MOON)[0] and sorted(os.listdir(room)) == ["link", "settings"]
 
 
+ASKED = b"kepler 39860120000 6678140 0 0 0 77.258 0 1"
+
+
+@case("the desk: a version's grade; the settings are looked at only where a version is named")
+def _():
+    with tempfile.TemporaryDirectory() as room:
+        room = pathlib.Path(room)
+        file, none, body = room / "settings", room / "none", EARTH[:3]
+        file.write_bytes(version(1, *body, 2.0 ** -20, 2.0 ** -10)[0] + version(2, *body, 0.5, 0.5)[0] + version(3, *body, 0.0, 0.0)[0])
+        plain = front("desk", given=ASKED + b"\n")
+        assert plain[0] == 0 and b" grade fair " in plain[1], plain
+        grades = {1: plain[1], 2: plain[1].replace(b" fair ", b" closed "), 3: plain[1].replace(b" fair ", b" rough ")}
+        grades.update((k, b"refused 23\n") for k in (0, 4, 2 ** 64 - 1))
+        for k, line in grades.items():
+            hold(front("desk", file, given=ASKED + b" version %d\n" % k), 0, line)
+            hold(front("desk", given=ASKED + b" version %d\n" % k), 0, b"refused 23\n")
+            hold(front("desk", none, given=ASKED + b" version %d\n" % k), 0, b"refused 23\n", "no such file: no version")
+        hold(front("desk", file, given=ASKED + b"\n"), 0, plain[1])
+        hold(front("desk", none, given=ASKED + b"\n"), 0, plain[1], "no such file: no version")
+        assert os.listdir(room) == ["settings"]
+        whole = file.read_bytes()
+        full = b"".join(version(k, *EARTH)[0] for k in range(1, 65))
+        file.write_bytes(full)
+        hold(front("desk", file, given=ASKED + b" version 64\n"), 0, plain[1])
+        for damaged in (whole[:-1], whole + b"\0", whole[44:], full + b"\0", full + version(65, *EARTH)[0], full + full):
+            file.write_bytes(damaged)
+            hold(front("desk", file, given=ASKED + b" version 1\nkepler 0 0 0 0 0 0 0 0 version 9\n" + ASKED + b"\n"), 0, b"refused 30\n" * 2 + plain[1])
+
+
+@case("the desk reads the settings once: what is stored later does not alter a run")
+def _():
+    with tempfile.TemporaryDirectory() as room:
+        file = pathlib.Path(room) / "settings"
+        hold(store(file, *EARTH), 0)
+        desk = subprocess.Popen([ROOT / "cabin", "desk", file], stdin=subprocess.PIPE, stdout=subprocess.PIPE)
+
+        def ask(number):
+            desk.stdin.write(ASKED + b" version %d\n" % number)
+            desk.stdin.flush()
+            return desk.stdout.readline()
+        first = ask(1)
+        assert b" grade fair " in first and ask(2) == b"refused 23\n"
+        hold(front("settings", file, "back", "1"), 0)
+        assert ask(2) == b"refused 23\n"
+        file.unlink()
+        assert ask(1) == first
+        desk.communicate(timeout=60)
+        assert desk.returncode == 0
+
+
+@case("the desk by settings that cannot be read: 2, and nothing is answered; a pipe has settings as a file has")
+def _():
+    given = b"root 2\n"
+    with tempfile.TemporaryDirectory() as room:
+        hold(front("desk", room, given=given), 2, b"", "cannot be read")
+        hold(front("desk", "", given=given), 2, b"", "name is empty")
+        hold(front("desk", "one", "two", given=given), 2, b"", "usage: ./cabin desk \\[SETTINGS\\]")
+        for words, says in (([room], "Is a directory"), ([f"{room}/none"], "No such file"), ([""], "the file name is empty"), (["a" * 5000], "File name too long"), (["one", "two"], "one file of settings")):
+            hold(front("run", "desk", *words, given=given), 0, b"", says)
+    with Room() as room:
+        secret = room.write("secret", "")
+        secret.chmod(0)
+        hold(room.front("desk", secret, given=given, nobody=True), 2, b"", "cannot be read")
+    ran = subprocess.run(["bash", "-c", '"$0" desk <(cat "$1") <<<"$2 version 1"', ROOT / "cabin", SAMPLE, ASKED], capture_output=True)
+    assert (ran.returncode, ran.stdout) == (0, b"refused 30\n"), ran
+
+
 # ---- output that does not get through
 
 @case("a full device: 2 for list, watch, desk and help")

@@ -20,9 +20,10 @@ CABIN = ROOT / "cabin"
 # page: where its definitions give a refusal its number, and how it is written there; TESTS is a routine's list of tests
 TESTS = r"\w+Tests"
 REFUSED = r"\b(?:Refused|Bad) (\d+)"
+LOOKED = ("settings/specs/History", r"\bL\.Refused (\d+)")  # where a version is named
 CASES = {
-    "advance": [("kepler/specs/Kepler", TESTS), ("kepler/specs/Kepler", r"^resultRow .*= positionComponents (9)"), ("solve/specs/Answers", r"^advancedNumber .*= (7|8|29)$")],
-    "transfer-velocity": [("lambert/specs/Lambert", TESTS), ("lambert/specs/Lambert", r"^resultRow .*= velocityComponents (9)"), ("solve/specs/Answers", r"^transferredNumber .*= (7|8|29)$")],
+    "advance": [LOOKED, ("kepler/specs/Kepler", TESTS), ("kepler/specs/Kepler", r"^resultRow .*= positionComponents (9)"), ("solve/specs/Answers", r"^advancedNumber .*= (7|8|29)$")],
+    "transfer-velocity": [LOOKED, ("lambert/specs/Lambert", TESTS), ("lambert/specs/Lambert", r"^resultRow .*= velocityComponents (9)"), ("solve/specs/Answers", r"^transferredNumber .*= (7|8|29)$")],
     "transfer-time": [("theta/specs/Theta", TESTS), ("theta/specs/Theta", r"^numberOf Too\w+ = ([78])")],
     "apsides": [("apsides/specs/Apsides", TESTS)],
     # an advance without a limit is always finished, so that 29 does not come up

@@ -4,6 +4,7 @@
   tools/sabotage.py [WORD]   the slips whose name has WORD in it, or all
 
 Prints the tables of docs/TESTS.md; ends with 1 if a slip changes none."""
+import functools
 import pathlib
 import random
 import shutil
@@ -12,6 +13,7 @@ import sys
 import tempfile
 
 sys.path.insert(0, str(pathlib.Path(__file__).parent))
+import grades
 import records
 import replay
 import settings
@@ -52,8 +54,8 @@ REQUESTS = [
     ("T-02: one turn left on", "kepler.c", "k->rest = k->size - (double)k->turns * period;", "k->rest = k->turns ? k->size - (double)(k->turns - 1) * period : k->size;"),
     ("T-02: a rest below 0 kept", "kepler.c", "if (k->rest < 0)", "if (0)"),
     ("T-02: the period's product in another order", "kepler.c", "* a * sqrt(a) / k->root_mu", "* (a * sqrt(a)) / k->root_mu"),
-    ("T-02: the grade taken from the rest", "kepler.c", "&on), k.rest, k.size)", "&on), k.rest, k.rest)"),
-    ("T-02: err taken from the size", "kepler.c", "&on), k.rest, k.size)", "&on), k.size, k.size)"),
+    ("T-02: the grade taken from the rest", "kepler.c", "&on), k.rest, k.size,", "&on), k.rest, k.rest,"),
+    ("T-02: err taken from the size", "kepler.c", "&on), k.rest, k.size,", "&on), k.size, k.size,"),
     ("T-02: the trials take the size", "kepler.c", "trials_made(&g, k.rest,", "trials_made(&g, k.size,"),
     ("T-09: `<` for `≤` at p_N = 2^-20", "solve.c", "p_n >= 0x1p-20", "p_n > 0x1p-20"),
     ("T-09: Kepler without it", "kepler.c", "    fall_test(f, p_n_of(mu, from));\n", ""),
@@ -200,6 +202,29 @@ SETTINGS = [
 ]
 
 
+GRADES = [
+    ("T-11: the fractions exchanged", "settings.c", "(fractions){ named.version.closed, named.version.fair }", "(fractions){ named.version.fair, named.version.closed }"),
+    ("T-11: the version's fractions not taken", "settings.c", "        on->grades = (fractions){ named.version.closed, named.version.fair };\n", "        on->version = 0;\n"),
+    ("T-11: the version named not looked at", "settings.c", "    if (!on->versioned)\n", "    if (1)\n"),
+    ("T-11: the settings looked at where no version is named", "settings.c", "        return 0;\n    versioned named", "        return latest(s).refused;\n    versioned named"),
+    ("T-11: the fractions kept for the next solve", "settings.c", "    if (!on->versioned)\n        return 0;\n    versioned named = version_of(s, on->version);\n", "    static uint64_t last;\n    last = on->versioned ? on->version : last;\n    if (!on->versioned && !last)\n        return 0;\n    versioned named = version_of(s, last);\n"),
+    ("T-11: 23 ahead of 30", "settings.c", "    versioned last = latest(s);\n    if (last.refused)\n        return last;\n    if (number < 1 ||", "    versioned last = latest(s);\n    if (number < 1 || number > s->used / VERSION_LENGTH)\n        return refused(23);\n    if (last.refused)\n        return last;\n    if (number < 1 ||"),
+    ("T-11: an advance's own refusals ahead of 23", "desk.c", "    return refused ? (solution){ .refused = refused } : advance_state(w[0].number, state_at(w + 1), w[7].number, on);\n", "    solution own = advance_state(w[0].number, state_at(w + 1), w[7].number, on);\n    return refused && !own.refused ? (solution){ .refused = refused } : own;\n"),
+    ("T-11: a transfer's own refusals ahead of 23", "desk.c", "    return refused ? (solution){ .refused = refused }\n                   : transfer_velocity(w[0].number, vector_at(w + 1), vector_at(w + 4), w[7].number, w[8].way, on);\n", "    solution own = transfer_velocity(w[0].number, vector_at(w + 1), vector_at(w + 4), w[7].number, w[8].way, on);\n    return refused && !own.refused ? (solution){ .refused = refused } : own;\n"),
+    ("T-11: the limits are fractions of the rest", "kepler.c", "&on), k.rest, k.size,", "&on), k.rest, k.rest,"),
+    ("T-11: `<` for `≤` at the closed limit", "solve.c", "err <= size * grades.closed", "err < size * grades.closed"),
+    ("T-11: `<` for `≤` at the fair limit", "solve.c", "err <= size * grades.fair", "err < size * grades.fair"),
+    ("T-11: err over the size for the product", "solve.c", "err <= size * grades.closed ?", "err / size <= grades.closed ?"),
+    ("T-11: versions counted from 0", "settings.c", "version_of(s, on->version)", "version_of(s, on->version + 1)"),
+    ("T-11: the version's number cut to four bytes", "settings.c", "version_of(s, on->version)", "version_of(s, (uint32_t)on->version)"),
+    ("T-11: the latest version for any", "settings.c", "version_of(s, on->version)", "version_of(s, on->version ? latest(s).number : 0)"),
+    ("T-11: the version's mu", "desk.c", "advance_state(w[0].number,", "advance_state(on.versioned ? version_of(kept, on.version).version.mu : w[0].number,"),
+    ("T-11: `version` read ahead of `limit`", "desk.c", "    if (next_is(from, \"limit\") && !read_count(next_word(from), &out->limit))\n        return false;\n    out->versioned = next_is(from, \"version\");\n    return !out->versioned || read_count(next_word(from), &out->version);\n", "    out->versioned = next_is(from, \"version\");\n    if (out->versioned && !read_count(next_word(from), &out->version))\n        return false;\n    return !next_is(from, \"limit\") || read_count(next_word(from), &out->limit);\n"),
+    ("T-11: the settings must be there", "main.c", "!settings_if_any(file, &kept)", "!settings_of(file, &kept)"),
+    ("T-11: settings that cannot be read have no version", "main.c", "        return 2;\n    for (long", "        kept.used = 0;\n    for (long"),
+]
+
+
 FLIGHTS = [
     ("T-10: 20 for the mark's own vehicle alone", "replay.c", "!v[0].set || !v[1].set", "!v[r->vehicle].set"),
     ("T-10: 21 not given", "replay.c", "v[0].body != v[1].body", "false"),
@@ -278,6 +303,20 @@ def stored(program):
     return [outcome for sequence in settings.sequences(40, 1) for outcome in settings.outcomes(str(program), sequence, ROOM)]
 
 
+def graded(program):
+    """What the desk answers to some 1,000 solves by each of 12 files of settings."""
+    lines, words = solves_by_files(program)
+    return [answer for word in words for answer in grades.asked(str(program), word, lines)]
+
+
+@functools.cache
+def solves_by_files(program):
+    room = ROOM / "graded"
+    room.mkdir()
+    lines, files = grades.made(str(program), 1000, 1)
+    return lines, list(grades.in_room(room, files))
+
+
 def flown(program):
     """What 150 sessions flown again give."""
     with tempfile.TemporaryDirectory() as room:
@@ -307,7 +346,7 @@ def main():
     source = ROOM / "second"
     shutil.copytree(ROOT / "second", source)
     unseen = 0
-    for slips, answers, heading in ((REQUESTS, requests, "answers that change"), (SESSIONS, sessions, "listings that change"), (TEXTS, texts, "texts that change"), (WATCHED, watched, "sessions in parts that change"), (SETTINGS, stored, "commands about settings that change"), (FLIGHTS, flown, "sessions flown again that change")):
+    for slips, answers, heading in ((REQUESTS, requests, "answers that change"), (SESSIONS, sessions, "listings that change"), (TEXTS, texts, "texts that change"), (WATCHED, watched, "sessions in parts that change"), (SETTINGS, stored, "commands about settings that change"), (GRADES, graded, "answers by files of settings that change"), (FLIGHTS, flown, "sessions flown again that change")):
         slips = [slip for slip in slips if word in slip[0]]
         right = answers(built(source)) if slips else []
         print(f"\n| slip | {heading} |\n|---|---|")

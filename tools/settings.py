@@ -26,6 +26,11 @@ def record(number, body=0, mu=3.986012e10, radius=6378165.0, closed=2.0**-20, fa
     return struct.pack("<HHIBBHdddd", length, kind, number, body, zero & 255, zero >> 8, mu, radius, closed, fair)
 
 
+def whole(fractions):
+    """A file with a version for each pair of fractions."""
+    return b"".join(record(k, body=k % 2, closed=closed, fair=fair) for k, (closed, fair) in enumerate(fractions, 1))
+
+
 GOOD = ["store", "1", "490277800", "1738090", "0.25", "0.5"]
 INFINITE, NONE = float("inf"), float("nan")
 

@@ -19,14 +19,14 @@ ANSWERS = {
     "c": ["value", "refused 1", "refused 6"],
     "s": ["value", "refused 1", "refused 6"],
     "trial": ["point", "none", "refused 1", "refused 6"],
-    "kepler": GRADES + [f"refused {n}" for n in (1, 2, 3, 4, 5, 6, 19, 29, 7, 9)],
-    "lambert": GRADES + [f"refused {n}" for n in (1, 2, 3, 5, 10, 6, 29, 7, 8, 9)],
+    "kepler": GRADES + [f"refused {n}" for n in (23, 1, 2, 3, 4, 5, 6, 19, 29, 7, 9)],
+    "lambert": GRADES + [f"refused {n}" for n in (23, 1, 2, 3, 5, 10, 6, 29, 7, 8, 9)],
     "theta": ["time"] + [f"refused {n}" for n in (1, 2, 3, 4, 10, 6, 19, 7, 8)],
     "apsides": ["closed", "open"] + [f"refused {n}" for n in (1, 2, 3, 4, 6, 19)],
     "wheel": ["sine", "refused 16"],
     "sight": ["points"] + [f"refused {n}" for n in (1, 3, 16, 17, 18)],
     "cdh": ["closed", "open"] + [f"refused {n}" for n in (14, 22, 25, 5, 1, 2, 3, 4, 10, 6, 19, 7, 8, 9, 26, 27, 28)],
-    "a line that cannot be read": [f"unread {n}" for n in range(23)],
+    "a line that cannot be read": [f"unread {n}" for n in range(25)],
 }
 
 

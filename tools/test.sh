@@ -72,6 +72,7 @@ part "fresh sessions" bash tools/compare.sh sessions
 part "fresh sessions as text" bash tools/compare.sh texts
 part "fresh sessions in parts" bash tools/compare.sh parts
 part "settings" bash tools/compare.sh settings
+part "solves graded by settings" bash tools/compare.sh grades
 part "sessions flown again" bash tools/compare.sh flights
 whole=yes
 [ "$failed" -eq 0 ]

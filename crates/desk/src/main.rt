@@ -1,4 +1,7 @@
-// A request a line on standard input, an answer a line on standard output. The work is in `reply`; this reads lines.
+// A request a line on standard input, an answer a line on standard output. The argument, where there is one, names the file
+// of the settings, which is read once, ahead of the first request; where it cannot be read, a message goes to standard
+// error and nothing is answered. The work is in `reply`; this reads the settings and the lines.
+use libc::STDERR_FILENO;
 use libc::STDIN_FILENO;
 use libc::STDOUT_FILENO;
 use split::Found;
@@ -9,6 +12,9 @@ ghost use Rattle.desk.specs.Keeps.{Inside, Keeps};
 
 // How much of a line is kept: one byte more than it may have, so that a longer one is known as such.
 const KEPT: usize = 1001;
+
+// Likewise of the settings, which have at most 64 versions of 44 bytes.
+const USED: usize = 2817;
 
 // Writes the front of a buffer to standard output, and answers whether that went well; else standard error says so.
 fn write(out: &[u8], n: usize) -> bool
@@ -22,9 +28,9 @@ fn write(out: &[u8], n: usize) -> bool
 }
 
 // Writes the reply to a line, and answers whether that went well. 512 bytes have room for every reply.
-fn answer(line: &[u8]) -> bool {
+fn answer(used: &[u8], line: &[u8]) -> bool {
     let mut out = [0u8; 512];
-    match reply::reply(line, &mut out) {
+    match reply::reply(used, line, &mut out) {
         Made::Line(n) => write(&out, n),
         Made::Refused(_) => false,
     }
@@ -37,7 +43,7 @@ enum Fed {
 }
 
 // Answers the lines that end in the input.
-fn feed(input: &[u8], line: &mut [u8], kept: usize) -> Fed
+fn feed(used: &[u8], input: &[u8], line: &mut [u8], kept: usize) -> Fed
     requires { ⌜ kept ≤ length (now line) ⌝ }
     ensures { λ r. ⌜ Inside r (length (now (line .exit))) × Keeps (now (input .entry)) (now (line .entry)) kept (now (line .exit)) r ⌝ }
 {
@@ -46,7 +52,7 @@ fn feed(input: &[u8], line: &mut [u8], kept: usize) -> Fed
     loop {
         match split::next_line(line, k, input, from) {
             Found::Line(n, at) => {
-                if !answer(&line[..n]) {
+                if !answer(used, &line[..n]) {
                     return Fed::Stopped;
                 }
                 k = 0;
@@ -58,7 +64,7 @@ fn feed(input: &[u8], line: &mut [u8], kept: usize) -> Fed
 }
 
 // One read, and the lines that it ends.
-fn take_some(line: &mut [u8], kept: usize) -> Fed
+fn take_some(used: &[u8], line: &mut [u8], kept: usize) -> Fed
     requires { ⌜ kept ≤ length (now line) ⌝ }
     ensures { λ r. ⌜ Inside r (length (now (line .exit))) ⌝ }
 {
@@ -70,25 +76,68 @@ fn take_some(line: &mut [u8], kept: usize) -> Fed
     }
     if got == 0 {
         if kept > 0 {
-            answer(&line[..kept]);
+            answer(used, &line[..kept]);
         }
         return Fed::Stopped;
     }
     let n = io::count(got, &input);
-    feed(&input[..n], line, kept)
+    feed(used, &input[..n], line, kept)
 }
 
-// A proved loop has to end, and nothing says that the input does: the turns are counted down from a number that no run
-// uses up.
-fn main() {
+// The answers to the lines of standard input. A proved loop has to end, and nothing says that the input does: the turns are
+// counted down from a number that no run uses up.
+fn serve(used: &[u8]) {
     let mut line = [0u8; KEPT];
     let mut kept = 0;
     let mut turns = u64::MAX;
     while turns > 0 {
-        let Fed::Kept(k) = take_some(&mut line, kept) else {
+        let Fed::Kept(k) = take_some(used, &mut line, kept) else {
             return;
         };
         kept = k;
         turns -= 1;
     }
+}
+
+// The same by the settings in a file that is open.
+fn serve_by(fd: i32, name: &[u8]) {
+    let mut buf = [0u8; USED];
+    let used = io::read_full(fd, &mut buf);
+    if used < USED {
+        let mut more = [0u8; 1];
+        if libc::read(fd, &mut more) != 0 {
+            os::fail(name);
+            return;
+        }
+    }
+    serve(&buf[..used]);
+}
+
+fn main() {
+    let count = os::arg_count();
+    if count < 2 {
+        serve(b"");
+        return;
+    }
+    if count > 2 {
+        io::write_all(STDERR_FILENO, b"desk: one file of settings at most\n");
+        return;
+    }
+    let mut path = io::buffer();
+    let n = os::arg(1, &mut path);
+    if os::errno() != 0 {
+        os::fail(b"desk: file name");
+        return;
+    }
+    if n == 0 {
+        io::write_all(STDERR_FILENO, b"desk: the file name is empty\n");
+        return;
+    }
+    let fd = os::open_read(&path[..n]);
+    if fd < 0 {
+        os::fail(&path[..n]);
+        return;
+    }
+    serve_by(fd, &path[..n]);
+    libc::close(fd);
 }

@@ -18,7 +18,14 @@ pub use parts::signed_at;
 use vector::State;
 use vector::Vector;
 
-// What a solve is given. An iterated one begins at the start or where it was stopped, and has a limit on its trials.
+// Whose fractions the grade goes by: 01's, or those of a version of the settings.
+pub enum Version {
+    Standard,
+    Named(u64),
+}
+
+// What a solve is given. An iterated one begins at the start or where it was stopped, has a limit on its trials, and is
+// graded by the fractions of its version.
 pub enum Solve {
     Kepler {
         mu: f64,
@@ -26,6 +33,7 @@ pub enum Solve {
         time: f64,
         beginning: Beginning,
         limit: u64,
+        version: Version,
     },
     Lambert {
         mu: f64,
@@ -35,6 +43,7 @@ pub enum Solve {
         way: Way,
         beginning: Beginning,
         limit: u64,
+        version: Version,
     },
     Theta {
         mu: f64,

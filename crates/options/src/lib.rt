@@ -1,11 +1,12 @@
-// What may stand behind an iterated solve: where its trials begin, and a limit on their count. What is there stands in
-// this order, and a word that is none of these cannot be read.
+// What may stand behind an iterated solve: where its trials begin, a limit on their count, and the version of the settings
+// whose fractions grade it. What is there stands in this order, and a word that is none of these cannot be read.
 ghost use Prim.Native.Nat.{_^_, _<_};
 ghost use mathlib.Core.Path.{_≡_};
 ghost use Rattle.words.specs.Words.{wordAt};
 ghost use Rattle.numerals.specs.Numbers.{wholeOf};
-ghost use Rattle.options.specs.Options.{ReadsEnd, ReadsStop, ReadsEnded, ReadsLimited, ReadsOptions};
+ghost use Rattle.options.specs.Options.{ReadsEnd, ReadsStop, ReadsEnded, ReadsVersion, ReadsLimited, ReadsOptions};
 use forms::Judged;
+use forms::Version;
 use iterator::Beginning;
 use iterator::Bracket;
 use iterator::Judgement;
@@ -24,9 +25,9 @@ enum Stop {
     Unread(u64),
 }
 
-// Where the trials begin and the limit on their count, or likewise.
+// Where the trials begin, the limit on their count and the version, or likewise.
 pub enum Options {
-    Read(Beginning, u64),
+    Read(Beginning, u64, Version),
     Unread(u64),
 }
 
@@ -73,27 +74,43 @@ fn bracket_at(line: &[u8], k: u64) -> Stop
 }
 
 // No word more.
-fn ended(line: &[u8], k: u64, g: Beginning, l: u64) -> Options
-    requires { ⌜ k < 2 ^ 34 ⌝ }
-    ensures { λ r. ⌜ ReadsEnded r g l k (now (line .entry)) ⌝ }
+fn ended(line: &[u8], k: u64, g: Beginning, l: u64, v: Version) -> Options
+    requires { ⌜ k < 2 ^ 35 ⌝ }
+    ensures { λ r. ⌜ ReadsEnded r g l v k (now (line .entry)) ⌝ }
 {
     if forms::is_end(line, k) {
-        return Options::Read(g, l);
+        return Options::Read(g, l, v);
     }
     Options::Unread(k + 1)
 }
 
-// The limit, and no word more. Where none stands it is a count that no solve reaches.
+// The version, and no word more. Where none is named the fractions are 01's.
+fn by_version(line: &[u8], k: u64, g: Beginning, l: u64) -> Options
+    requires { ⌜ k < 2 ^ 34 ⌝ }
+    ensures { λ r. ⌜ ReadsVersion r g l k (now (line .entry)) ⌝ }
+{
+    let w = words::word(line, k);
+    if !words::is_word(w, b"version") {
+        return ended(line, k, g, l, Version::Standard);
+    }
+    let behind = k + 2;
+    match whole_at(line, k + 1) {
+        Whole::Read(n) => ended(line, behind, g, l, Version::Named(n)),
+        Whole::Unread => Options::Unread(behind),
+    }
+}
+
+// The limit, and what follows it. Where none stands it is a count that no solve reaches.
 fn limited(line: &[u8], k: u64, g: Beginning) -> Options
     requires { ⌜ k < 2 ^ 33 ⌝ }
     ensures { λ r. ⌜ ReadsLimited r g k (now (line .entry)) ⌝ }
 {
     let w = words::word(line, k);
     if !words::is_word(w, b"limit") {
-        return ended(line, k, g, 18446744073709551615);
+        return by_version(line, k, g, 18446744073709551615);
     }
     match whole_at(line, k + 1) {
-        Whole::Read(l) => ended(line, k + 2, g, l),
+        Whole::Read(l) => by_version(line, k + 2, g, l),
         Whole::Unread => Options::Unread(k + 2),
     }
 }

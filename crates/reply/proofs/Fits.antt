@@ -8,7 +8,6 @@ use Rattle.text.specs.Pieces.{concat, Laid}
 use Rattle.root.specs.Root.{rootAnswer}
 use Rattle.series.specs.Series.{cAnswer, sAnswer}
 use Rattle.iterator.specs.Single.{trialOf}
-use Rattle.solve.specs.Answers.{advanceTo, transferVelocityTo}
 use Rattle.theta.specs.Theta.{thetaOf}
 use Rattle.apsides.specs.Apsides.{apsidesOf}
 use Rattle.forms.specs.declared.Request.{Request}
@@ -26,31 +25,31 @@ use Rattle.sight.specs.Sight.{sightOf}
 use Rattle.views.proofs.Lengths.{wheel-fits, sight-fits}
 use Rattle.burn.specs.Burn.{burnOf}
 use Rattle.changes.proofs.Lengths.{burn-fits}
-use Rattle.reply.specs.Replies.{room, solvedOf, lookedOf, replyOf}
+use Rattle.reply.specs.Replies.{room, advancedBy, transferredBy, solvedOf, lookedOf, replyOf}
 
-solved-fits : (x : Solve) → length (concat (solvedOf x)) ≤ room
+solved-fits : (used : List ℕ) (x : Solve) → length (concat (solvedOf used x)) ≤ room
 unfolding solvedOf
-solved-fits (Kepler mu state time beginning limit) = advanced-fits (advanceTo mu state time limit beginning)
-solved-fits (Lambert mu first second time way beginning limit) = transferred-fits (transferVelocityTo mu first second way time limit beginning)
-solved-fits (Theta mu state sine cosine) = timed-fits (thetaOf mu state sine cosine)
-solved-fits (Apsides mu state) = apsides-fits (apsidesOf mu state)
+solved-fits used (Kepler mu state time beginning limit version) = advanced-fits (advancedBy used version mu state time limit beginning)
+solved-fits used (Lambert mu first second time way beginning limit version) = transferred-fits (transferredBy used version mu first second way time limit beginning)
+solved-fits used (Theta mu state sine cosine) = timed-fits (thetaOf mu state sine cosine)
+solved-fits used (Apsides mu state) = apsides-fits (apsidesOf mu state)
 
 looked-fits : (x : Look) → length (concat (lookedOf x)) ≤ room
 unfolding lookedOf
 looked-fits (Wheel e) = wheel-fits (wheelOf e)
 looked-fits (Sight active passive elevation horizontal vertical) = sight-fits (sightOf active passive elevation horizontal vertical)
 
-pub reply-fits : (q : Request) → length (concat (replyOf q)) ≤ room
+pub reply-fits : (used : List ℕ) (q : Request) → length (concat (replyOf used q)) ≤ room
 unfolding concat
-reply-fits Nothing = lit≤ tt
-reply-fits (Root x) = answer-fits (rootAnswer x)
-reply-fits (C xi) = answer-fits (cAnswer xi)
-reply-fits (S xi) = answer-fits (sAnswer xi)
-reply-fits (Trial asked lo hi below above k) = tried-fits (trialOf asked lo hi below above k)
-reply-fits (Q.Look x) = looked-fits x
-reply-fits (Q.Solve x) = solved-fits x
-reply-fits (Burn body radius mu active ta passive tp t2 t3) = burn-fits (burnOf (record { body = body; radius = radius; mu = mu }) active ta passive tp t2 t3)
-reply-fits (Unread w) = unread-fits w
+reply-fits used Nothing = lit≤ tt
+reply-fits used (Root x) = answer-fits (rootAnswer x)
+reply-fits used (C xi) = answer-fits (cAnswer xi)
+reply-fits used (S xi) = answer-fits (sAnswer xi)
+reply-fits used (Trial asked lo hi below above k) = tried-fits (trialOf asked lo hi below above k)
+reply-fits used (Q.Look x) = looked-fits x
+reply-fits used (Q.Solve x) = solved-fits used x
+reply-fits used (Burn body radius mu active ta passive tp t2 t3) = burn-fits (burnOf (record { body = body; radius = radius; mu = mu }) active ta passive tp t2 t3)
+reply-fits used (Unread w) = unread-fits w
 
 pub laid-as : {d : List ℕ} {at : ℕ} {xs ys : List (List ℕ)} {e : List ℕ} {r : ℕ} → xs ≡ ys → Laid d at xs e r → Laid d at ys e r
 laid-as {d} {at} {xs} {ys} {e} {r} p l = subst (λ (zs : List (List ℕ)). Laid d at zs e r) p l

@@ -1,16 +1,66 @@
 // The desk: a line in, a line out.
+ghost use mathlib.Core.Path.{_≡_};
 ghost use Rattle.text.specs.Text.{InFront};
 ghost use Rattle.text.specs.Pieces.{Laid};
-ghost use Rattle.reply.specs.Replies.{room, solvedOf, lookedOf, replyOf, replyText};
+ghost use Rattle.reply.specs.Replies.{room, advancedBy, transferredBy, solvedOf, lookedOf, replyOf, replyText};
 use burn::Centre;
 use forms::Look;
 use forms::Request;
 use forms::Solve;
+use forms::Version;
+use iterator::Beginning;
+use lambert::Way;
+use solve::Advanced;
+use solve::Transferred;
 use text::Made;
+use vector::State;
+use vector::Vector;
+
+// The advance, graded by 01's fractions, or by those of a version of the settings in `used`.
+fn advanced(
+    used: &[u8],
+    version: Version,
+    mu: f64,
+    state: State,
+    time: f64,
+    limit: u64,
+    beginning: Beginning,
+) -> Advanced
+    ensures { λ r. ⌜ r ≡ advancedBy (now (used .entry)) version mu state time limit beginning ⌝ }
+{
+    match version {
+        Version::Standard => solve::advance_limited(mu, state, time, limit, beginning),
+        Version::Named(k) => graded::advance(used, k, mu, state, time, limit, beginning),
+    }
+}
+
+// The transfer likewise.
+fn transferred(
+    used: &[u8],
+    version: Version,
+    mu: f64,
+    first: Vector,
+    second: Vector,
+    way: Way,
+    time: f64,
+    limit: u64,
+    beginning: Beginning,
+) -> Transferred
+    ensures { λ r. ⌜ r ≡ transferredBy (now (used .entry)) version mu first second way time limit beginning ⌝ }
+{
+    match version {
+        Version::Standard => {
+            solve::transfer_velocity_limited(mu, first, second, way, time, limit, beginning)
+        }
+        Version::Named(k) => {
+            graded::transfer_velocity(used, k, mu, first, second, way, time, limit, beginning)
+        }
+    }
+}
 
 // A solve's answer, at the front of a lent buffer.
-fn solved(buf: &mut [u8], given: Solve) -> usize
-    ensures { λ r. ⌜ Laid (now (buf .entry)) 0 (solvedOf given) (now (buf .exit)) r ⌝ }
+fn solved(buf: &mut [u8], used: &[u8], given: Solve) -> usize
+    ensures { λ r. ⌜ Laid (now (buf .entry)) 0 (solvedOf (now (used .entry)) given) (now (buf .exit)) r ⌝ }
 {
     match given {
         Solve::Kepler {
@@ -19,10 +69,8 @@ fn solved(buf: &mut [u8], given: Solve) -> usize
             time,
             beginning,
             limit,
-        } => solutions::tell_advance(
-            buf,
-            solve::advance_limited(mu, state, time, limit, beginning),
-        ),
+            version: v,
+        } => solutions::tell_advance(buf, advanced(used, v, mu, state, time, limit, beginning)),
         Solve::Lambert {
             mu,
             first,
@@ -31,9 +79,10 @@ fn solved(buf: &mut [u8], given: Solve) -> usize
             way,
             beginning,
             limit,
+            version: v,
         } => solutions::tell_transfer(
             buf,
-            solve::transfer_velocity_limited(mu, first, second, way, time, limit, beginning),
+            transferred(used, v, mu, first, second, way, time, limit, beginning),
         ),
         Solve::Theta {
             mu,
@@ -65,8 +114,8 @@ fn looked(buf: &mut [u8], given: Look) -> usize
 }
 
 // What is asked, answered likewise.
-fn answered(buf: &mut [u8], request: Request) -> usize
-    ensures { λ r. ⌜ Laid (now (buf .entry)) 0 (replyOf request) (now (buf .exit)) r ⌝ }
+fn answered(buf: &mut [u8], used: &[u8], request: Request) -> usize
+    ensures { λ r. ⌜ Laid (now (buf .entry)) 0 (replyOf (now (used .entry)) request) (now (buf .exit)) r ⌝ }
 {
     match request {
         Request::Nothing => 0,
@@ -82,7 +131,7 @@ fn answered(buf: &mut [u8], request: Request) -> usize
             k,
         } => answers::tell_trial(buf, iterator::trial(asked, lo, hi, below, above, k)),
         Request::Look(x) => looked(buf, x),
-        Request::Solve(x) => solved(buf, x),
+        Request::Solve(x) => solved(buf, used, x),
         Request::Burn {
             body,
             radius,
@@ -102,12 +151,13 @@ fn answered(buf: &mut [u8], request: Request) -> usize
 }
 
 // The reply to a line, newline and all, made at the front of a lent buffer: its length, which is 0 where nothing is
-// asked, or 15 for a buffer of under 512 bytes, which stays as it was.
-pub fn reply(line: &[u8], buf: &mut [u8]) -> Made
-    ensures { λ r. ⌜ InFront room (replyText (now (line .entry))) (now (buf .entry)) (now (buf .exit)) r ⌝ }
+// asked, or 15 for a buffer of under 512 bytes, which stays as it was. `used` is the used part of the settings, empty
+// where there are none.
+pub fn reply(used: &[u8], line: &[u8], buf: &mut [u8]) -> Made
+    ensures { λ r. ⌜ InFront room (replyText (now (used .entry)) (now (line .entry))) (now (buf .entry)) (now (buf .exit)) r ⌝ }
 {
     if buf.len() < 512 {
         return Made::Refused(15);
     }
-    Made::Line(answered(buf, requests::read(line)))
+    Made::Line(answered(buf, used, requests::read(line)))
 }

@@ -7,6 +7,7 @@ use Rattle.vector.specs.declared.State.{State}
 use Rattle.iterator.specs.declared.Beginning.{Beginning}
 use Rattle.lambert.specs.declared.Way.{Way}
 use Rattle.lambert.specs.declared.Way.the-variants.{Normal}
+use Rattle.forms.specs.declared.Version.{Version}
 use Rattle.forms.specs.declared.Request.{Request}
 use Rattle.forms.specs.declared.Solve.{Solve}
 use Rattle.forms.specs.declared.Solve.the-variants.{Kepler, Lambert, Theta, Apsides}
@@ -24,21 +25,21 @@ stateIn xs = record {
   vz = getD xs 6 nan;
 }
 
-abbrev keplerOf : List Float → Beginning → ℕ → Solve
-keplerOf xs g l = Kepler (getD xs 0 nan) (stateIn xs) (getD xs 7 nan) g l
+abbrev keplerOf : List Float → Beginning → ℕ → Version → Solve
+keplerOf xs g l v = Kepler (getD xs 0 nan) (stateIn xs) (getD xs 7 nan) g l v
 
-abbrev pub keplerAsk : (Solve → Request) → List Float → Beginning → ℕ → Request
-keplerAsk ask xs g l = ask (keplerOf xs g l)
+abbrev pub keplerAsk : (Solve → Request) → List Float → Beginning → ℕ → Version → Request
+keplerAsk ask xs g l v = ask (keplerOf xs g l v)
 
 abbrev pub keplerGo : (Solve → Request) → List Float → Form
 keplerGo ask xs = options (keplerAsk ask xs)
 
-abbrev lambertOf : List Float → Way → Beginning → ℕ → Solve
-lambertOf xs w g l =
-    Lambert (getD xs 0 nan) (record { x = getD xs 1 nan; y = getD xs 2 nan; z = getD xs 3 nan }) (record { x = getD xs 4 nan; y = getD xs 5 nan; z = getD xs 6 nan }) (getD xs 7 nan) w g l
+abbrev lambertOf : List Float → Way → Beginning → ℕ → Version → Solve
+lambertOf xs w g l v =
+    Lambert (getD xs 0 nan) (record { x = getD xs 1 nan; y = getD xs 2 nan; z = getD xs 3 nan }) (record { x = getD xs 4 nan; y = getD xs 5 nan; z = getD xs 6 nan }) (getD xs 7 nan) w g l v
 
-abbrev pub lambertAsk : (Solve → Request) → List Float → Way → Beginning → ℕ → Request
-lambertAsk ask xs w g l = ask (lambertOf xs w g l)
+abbrev pub lambertAsk : (Solve → Request) → List Float → Way → Beginning → ℕ → Version → Request
+lambertAsk ask xs w g l v = ask (lambertOf xs w g l v)
 
 abbrev pub lambertEnd : (Solve → Request) → List Float → Way → Form
 lambertEnd ask xs w = options (lambertAsk ask xs w)

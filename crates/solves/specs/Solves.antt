@@ -39,10 +39,10 @@ way go = word (ascii "short") (go Short) (word (ascii "long") (go Long) (word (a
 -- ---- the table; `ask` makes the request
 
 abbrev pub keplerForm : (Solve → Request) → Form
-keplerForm ask = orbit λ mu state. number λ time. options λ g l. ask (Kepler mu state time g l)
+keplerForm ask = orbit λ mu state. number λ time. options λ g l v. ask (Kepler mu state time g l v)
 
 abbrev pub lambertForm : (Solve → Request) → Form
-lambertForm ask = three λ mu first second. number λ time. way λ w. options λ g l. ask (Lambert mu first second time w g l)
+lambertForm ask = three λ mu first second. number λ time. way λ w. options λ g l v. ask (Lambert mu first second time w g l v)
 
 abbrev pub thetaForm : (Solve → Request) → Form
 thetaForm ask = orbit λ mu state. number λ sine. number λ cosine. end (ask (Theta mu state sine cosine))

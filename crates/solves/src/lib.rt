@@ -67,7 +67,7 @@ fn kepler(line: &[u8], k: u32) -> Given
         return Given::Unread(w);
     }
     match options::read(line, k + 8) {
-        Options::Read(beginning, limit) => Given::Read(Solve::Kepler {
+        Options::Read(beginning, limit, version) => Given::Read(Solve::Kepler {
             mu: x[0],
             state: State {
                 rx: x[1],
@@ -80,6 +80,7 @@ fn kepler(line: &[u8], k: u32) -> Given
             time: x[7],
             beginning,
             limit,
+            version,
         }),
         Options::Unread(j) => Given::Unread(j),
     }
@@ -96,7 +97,7 @@ fn lambert(line: &[u8], k: u32) -> Given
     }
     match way_at(line, k + 8) {
         Round::Read(way, behind) => match options::read(line, behind) {
-            Options::Read(beginning, limit) => Given::Read(Solve::Lambert {
+            Options::Read(beginning, limit, version) => Given::Read(Solve::Lambert {
                 mu: x[0],
                 first: Vector {
                     x: x[1],
@@ -112,6 +113,7 @@ fn lambert(line: &[u8], k: u32) -> Given
                 way,
                 beginning,
                 limit,
+                version,
             }),
             Options::Unread(j) => Given::Unread(j),
         },

@@ -24,7 +24,7 @@ slice-reshare-prefix-answer : tie.Need-slice-reshare-prefix-answer
 slice-reshare-prefix-answer c = search needs
 
 slice-aggregate-answer : tie.Need-slice-aggregate-answer
-slice-aggregate-answer c = sym (length-take-le _ _ (c .before .before .before .before .before .before .before .before .pre))
+slice-aggregate-answer c = sym (length-take-le _ _ (c .before .before .before .before .before .before .before .before .before .pre))
 
 answer-requires : tie.Need-answer-requires
 answer-requires c κs = search needs

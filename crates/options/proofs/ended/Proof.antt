@@ -11,11 +11,11 @@ is-end-requires c κs = search needs
 returns : tie.Need-returns
 returns c = λ ask. by-end _ _ (now (c .before .before .before .args .line)) (c .before .is-end .ensures) (c .if1 .taken)
 
-add-t6 : tie.Need-add-t6
-add-t6 c = search needs
+add-t7 : tie.Need-add-t7
+add-t7 c = search needs
 
 returns-2 : tie.Need-returns-2
 returns-2 c = λ ask. by-end _ _ (now (c .before .before .before .args .line)) (c .before .is-end .ensures) (c .if1 .left)
 
 pub ended-spec : {M : Type 1} → statement M
-ended-spec = tie.close (tie.spec is-end-requires returns add-t6 returns-2)
+ended-spec = tie.close (tie.spec is-end-requires returns add-t7 returns-2)

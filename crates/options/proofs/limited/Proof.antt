@@ -6,6 +6,7 @@ use denote.Ref.{now}
 use borrow.Author.Tests.{not-true, not-false}
 use Rattle.forms.specs.Forms.{end, readBy}
 use Rattle.forms.proofs.Steps.{by-word, by-whole}
+use Rattle.options.specs.Options.{version}
 use borrow.Author.Needs.{needs}
 use Rattle.options.proofs.limited.Statement.{statement}
 use Rattle.options.proofs.limited.Tie as tie
@@ -19,11 +20,11 @@ slice-aggregate-is-word c = search needs
 is-word-requires : tie.Need-is-word-requires
 is-word-requires c κs = search needs
 
-ended-requires : tie.Need-ended-requires
-ended-requires c κs = search needs
+by-version-requires : tie.Need-by-version-requires
+by-version-requires c κs = search needs
 
 returns : tie.Need-returns
-returns c = λ ask. by-word _ _ _ _ _ (c .before .before .before .before .word .ensures) (c .before .before .is-word .ensures) (not-true _ (c .before .if1 .taken)) ∙ c .ended .ensures ask
+returns c = λ ask. by-word _ _ _ _ _ (c .before .before .before .before .word .ensures) (c .before .before .is-word .ensures) (not-true _ (c .before .if1 .taken)) ∙ c .by-version .ensures ask
 
 add-whole-at : tie.Need-add-whole-at
 add-whole-at c = search needs
@@ -34,11 +35,11 @@ whole-at-requires c κs = search needs
 enum-known-l : tie.Need-enum-known-l
 enum-known-l c = search needs
 
-add-ended : tie.Need-add-ended
-add-ended c = search needs
+add-by-version : tie.Need-add-by-version
+add-by-version c = search needs
 
-ended-requires-2 : tie.Need-ended-requires-2
-ended-requires-2 c κs = search needs
+by-version-requires-2 : tie.Need-by-version-requires-2
+by-version-requires-2 c κs = search needs
 
 enum-told : tie.Need-enum-told
 enum-told c = search needs
@@ -53,8 +54,8 @@ returns-2 c =
     λ ask.
     by-word _ _ _ _ _ (c .before .before .before .before .before .before .before .before .word .ensures) (c .before .before .before .before .before .before .is-word .ensures) (not-false _ (c .before .before .before .before .before .if1 .left))
     ∙ by-whole _ (now (s .args .line)) _ (c .before .before .before .before .whole-at .ensures) (c .before .before .l .given .1)
-    ∙ ap (λ (p : ℕ). readBy (end (ask (s .args .g) (c .before .before .l .given .0 .0))) p (now (s .args .line))) n
-    ∙ c .ended2 .ensures ask
+    ∙ ap (λ (p : ℕ). readBy (version λ v. end (ask (s .args .g) (c .before .before .l .given .0 .0) v)) p (now (s .args .line))) n
+    ∙ c .by-version2 .ensures ask
 
 returns-3 : tie.Need-returns-3
 returns-3 c =
@@ -72,13 +73,13 @@ limited-spec =
     word-requires
     slice-aggregate-is-word
     is-word-requires
-    ended-requires
+    by-version-requires
     returns
     add-whole-at
     whole-at-requires
     enum-known-l
-    add-ended
-    ended-requires-2
+    add-by-version
+    by-version-requires-2
     enum-told
     add-t15
     returns-2

@@ -7,10 +7,11 @@ use borrow.Author.Tests.{not-true, not-false}
 use Rattle.iterator.specs.declared.Bracket.{Bracket}
 use Rattle.iterator.specs.declared.Beginning.{Beginning}
 use Rattle.iterator.specs.declared.Beginning.the-variants.{Stopped}
+use Rattle.forms.specs.declared.Version.{Version}
 use Rattle.forms.specs.declared.Request.{Request}
 use Rattle.forms.specs.Forms.{Form, end, readBy}
 use Rattle.forms.proofs.Steps.{by-word}
-use Rattle.options.specs.Options.{limit, behindStop}
+use Rattle.options.specs.Options.{limit, version, behindStop}
 use Rattle.options.specs.declared.Stop.{Stop}
 use borrow.Author.Needs.{needs}
 use Rattle.options.proofs.read.Statement.{statement}
@@ -29,8 +30,8 @@ limited-requires : tie.Need-limited-requires
 limited-requires c κs = search needs
 
 -- what follows a bracket
-abbrev going : (Beginning → ℕ → Request) → Bracket → Form
-going ask b = limit λ l. end (ask (Stopped b) l)
+abbrev going : (Beginning → ℕ → Version → Request) → Bracket → Form
+going ask b = limit λ l. version λ v. end (ask (Stopped b) l v)
 
 returns : tie.Need-returns
 returns c = λ ask. by-word _ _ _ _ _ (c .before .before .before .before .word .ensures) (c .before .before .is-word .ensures) (not-true _ (c .before .if1 .taken)) ∙ c .limited .ensures ask

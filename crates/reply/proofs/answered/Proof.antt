@@ -78,25 +78,25 @@ unread-requires : tie.Need-unread-requires
 unread-requires c κs = search needs
 
 returns : tie.Need-returns
-returns c = laid-as (ap replyOf (sym (c .enum-told .given .1))) end
+returns c = laid-as (ap (replyOf _) (sym (c .enum-told .given .1))) end
 
 same-length : tie.Need-same-length
 same-length c = search needs
 
 returns-2 : tie.Need-returns-2
-returns-2 c = laid-as (ap answerPieces (c .before .before .before .root .ensures .answer) ∙ ap replyOf (sym (c .before .before .before .before .before .before .request .given .1))) (c .before .before .tell-number .ensures)
+returns-2 c = laid-as (ap answerPieces (c .before .before .before .root .ensures .answer) ∙ ap (replyOf _) (sym (c .before .before .before .before .before .before .request .given .1))) (c .before .before .tell-number .ensures)
 
 same-length-2 : tie.Need-same-length-2
 same-length-2 c = search needs
 
 returns-3 : tie.Need-returns-3
-returns-3 c = laid-as (ap answerPieces (c .before .before .before .c .ensures) ∙ ap replyOf (sym (c .before .before .before .before .before .before .request2 .given .1))) (c .before .before .tell-number2 .ensures)
+returns-3 c = laid-as (ap answerPieces (c .before .before .before .c .ensures) ∙ ap (replyOf _) (sym (c .before .before .before .before .before .before .request2 .given .1))) (c .before .before .tell-number2 .ensures)
 
 same-length-3 : tie.Need-same-length-3
 same-length-3 c = search needs
 
 returns-4 : tie.Need-returns-4
-returns-4 c = laid-as (ap answerPieces (c .before .before .before .s .ensures) ∙ ap replyOf (sym (c .before .before .before .before .before .before .request3 .given .1))) (c .before .before .tell-number3 .ensures)
+returns-4 c = laid-as (ap answerPieces (c .before .before .before .s .ensures) ∙ ap (replyOf _) (sym (c .before .before .before .before .before .before .request3 .given .1))) (c .before .before .tell-number3 .ensures)
 
 same-length-4 : tie.Need-same-length-4
 same-length-4 c = search needs
@@ -107,19 +107,19 @@ returns-5 c =
     let l = toZ-ofZ {w = w64} {z = g .1 .0} (record { sfits = c .before .before .before .before .before .known-told4 .given .1 .0 .1 }) in
     let h = toZ-ofZ {w = w64} {z = g .1 .1 .0} (record { sfits = c .before .before .before .before .before .known-told4 .given .1 .1 .0 .1 }) in
     let t = rw (l, h) at (c .before .before .before .trial .ensures) in
-    laid-as (ap triedPieces t ∙ ap replyOf (sym (c .before .before .before .before .before .before .request4 .given .1))) (c .before .before .tell-trial .ensures)
+    laid-as (ap triedPieces t ∙ ap (replyOf _) (sym (c .before .before .before .before .before .before .request4 .given .1))) (c .before .before .tell-trial .ensures)
 
 same-length-5 : tie.Need-same-length-5
 same-length-5 c = search needs
 
 returns-6 : tie.Need-returns-6
-returns-6 c = laid-as (ap replyOf (sym (c .before .before .before .before .before .request5 .given .1))) (c .before .before .looked .ensures)
+returns-6 c = laid-as (ap (replyOf _) (sym (c .before .before .before .before .before .request5 .given .1))) (c .before .before .looked .ensures)
 
 same-length-6 : tie.Need-same-length-6
 same-length-6 c = search needs
 
 returns-7 : tie.Need-returns-7
-returns-7 c = laid-as (ap replyOf (sym (c .before .before .before .before .before .request6 .given .1))) (c .before .before .solved .ensures)
+returns-7 c = laid-as (ap (replyOf _) (sym (c .before .before .before .before .before .request6 .given .1))) (c .before .before .solved .ensures)
 
 same-length-7 : tie.Need-same-length-7
 same-length-7 c = search needs
@@ -133,13 +133,13 @@ returns-8 c =
     let t = toZ-ofZ {w = w64} {z = g .1 .1 .1 .1 .1 .1 .1 .0} (record { sfits = k .1 .1 .1 .1 .1 .1 .1 .0 .1 }) in
     let u = toZ-ofZ {w = w64} {z = g .1 .1 .1 .1 .1 .1 .1 .1 .0} (record { sfits = k .1 .1 .1 .1 .1 .1 .1 .1 .0 .1 }) in
     let h = rw (a, p, t, u) at (c .before .before .before .constant-height .ensures) in
-    laid-as (ap burnPieces h ∙ ap replyOf (sym (c .before .before .before .before .before .before .request7 .given .1))) (c .before .before .tell-burn .ensures)
+    laid-as (ap burnPieces h ∙ ap (replyOf _) (sym (c .before .before .before .before .before .before .request7 .given .1))) (c .before .before .tell-burn .ensures)
 
 same-length-8 : tie.Need-same-length-8
 same-length-8 c = search needs
 
 returns-9 : tie.Need-returns-9
-returns-9 c = laid-as (ap replyOf (sym (c .before .before .before .before .before .request8 .given .1))) (c .before .before .unread .ensures)
+returns-9 c = laid-as (ap (replyOf _) (sym (c .before .before .before .before .before .request8 .given .1))) (c .before .before .unread .ensures)
 
 pub answered-spec : {M : Type 1} → statement M
 answered-spec =

@@ -24,8 +24,8 @@ same-length c = search needs
 
 returns-2 : tie.Need-returns-2
 returns-2 c =
-    let l = laid-as (ap replyOf (c .before .before .before .read .ensures)) (c .before .before .answered .ensures) in
-    in-front {room = room} (c .before .before .before .before .before .if1 .left) (reply-fits (requestOf (now (c .before .before .before .before .before .before .before .before .args .line)))) (all-fit l)
+    let l = laid-as (ap (replyOf _) (c .before .before .before .read .ensures)) (c .before .before .answered .ensures) in
+    in-front {room = room} (c .before .before .before .before .before .if1 .left) (reply-fits _ (requestOf (now (c .before .before .before .before .before .before .before .before .before .args .line)))) (all-fit l)
 
 pub reply-spec : {M : Type 1} → statement M
 reply-spec = tie.close (tie.spec returns read-requires answered-requires same-length returns-2)

@@ -11,8 +11,8 @@ use Rattle.reply.proofs.solved.Tie as tie
 enum-known-given : tie.Need-enum-known-given
 enum-known-given c = search needs
 
-advance-limited-requires : tie.Need-advance-limited-requires
-advance-limited-requires c κs = search needs
+advanced-requires : tie.Need-advanced-requires
+advanced-requires c κs = search needs
 
 tell-advance-requires : tie.Need-tell-advance-requires
 tell-advance-requires c κs = search needs
@@ -20,8 +20,8 @@ tell-advance-requires c κs = search needs
 enum-known-given-2 : tie.Need-enum-known-given-2
 enum-known-given-2 c = search needs
 
-transfer-velocity-limited-requires : tie.Need-transfer-velocity-limited-requires
-transfer-velocity-limited-requires c κs = search needs
+transferred-requires : tie.Need-transferred-requires
+transferred-requires c κs = search needs
 
 tell-transfer-requires : tie.Need-tell-transfer-requires
 tell-transfer-requires c κs = search needs
@@ -49,38 +49,38 @@ same-length c = search needs
 
 returns : tie.Need-returns
 unfolding solvedOf
-returns c = laid-as (ap advancedPieces (c .before .before .before .advance-limited .ensures) ∙ ap solvedOf (sym (c .before .before .before .before .before .before .given .given .1))) (c .before .before .tell-advance .ensures)
+returns c = laid-as (ap advancedPieces (c .before .before .before .advanced .ensures) ∙ ap (solvedOf _) (sym (c .before .before .before .before .before .before .given .given .1))) (c .before .before .tell-advance .ensures)
 
 same-length-2 : tie.Need-same-length-2
 same-length-2 c = search needs
 
 returns-2 : tie.Need-returns-2
 unfolding solvedOf
-returns-2 c = laid-as (ap transferredPieces (c .before .before .before .transfer-velocity-limited .ensures) ∙ ap solvedOf (sym (c .before .before .before .before .before .before .given2 .given .1))) (c .before .before .tell-transfer .ensures)
+returns-2 c = laid-as (ap transferredPieces (c .before .before .before .transferred .ensures) ∙ ap (solvedOf _) (sym (c .before .before .before .before .before .before .given2 .given .1))) (c .before .before .tell-transfer .ensures)
 
 same-length-3 : tie.Need-same-length-3
 same-length-3 c = search needs
 
 returns-3 : tie.Need-returns-3
 unfolding solvedOf
-returns-3 c = laid-as (ap timedPieces (c .before .before .before .time-theta .ensures) ∙ ap solvedOf (sym (c .before .before .before .before .before .before .given3 .given .1))) (c .before .before .tell-time .ensures)
+returns-3 c = laid-as (ap timedPieces (c .before .before .before .time-theta .ensures) ∙ ap (solvedOf _) (sym (c .before .before .before .before .before .before .given3 .given .1))) (c .before .before .tell-time .ensures)
 
 same-length-4 : tie.Need-same-length-4
 same-length-4 c = search needs
 
 returns-4 : tie.Need-returns-4
 unfolding solvedOf
-returns-4 c = laid-as (ap apsidesPieces (c .before .before .before .periapo .ensures) ∙ ap solvedOf (sym (c .before .before .before .before .before .before .given4 .given .1))) (c .before .before .tell-apsides .ensures)
+returns-4 c = laid-as (ap apsidesPieces (c .before .before .before .periapo .ensures) ∙ ap (solvedOf _) (sym (c .before .before .before .before .before .before .given4 .given .1))) (c .before .before .tell-apsides .ensures)
 
 pub solved-spec : {M : Type 1} → statement M
 solved-spec =
     tie.close
     (tie.spec
     enum-known-given
-    advance-limited-requires
+    advanced-requires
     tell-advance-requires
     enum-known-given-2
-    transfer-velocity-limited-requires
+    transferred-requires
     tell-transfer-requires
     enum-known-given-3
     time-theta-requires

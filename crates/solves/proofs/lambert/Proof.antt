@@ -43,29 +43,29 @@ read-requires c κs = search needs
 enum-known-beginning : tie.Need-enum-known-beginning
 enum-known-beginning c = search needs
 
-array-read-t21 : tie.Need-array-read-t21
-array-read-t21 c = search needs
+array-read-t22 : tie.Need-array-read-t22
+array-read-t22 c = search needs
 
-array-read-t24 : tie.Need-array-read-t24
-array-read-t24 c = search needs
+array-read-t25 : tie.Need-array-read-t25
+array-read-t25 c = search needs
 
-array-read-t27 : tie.Need-array-read-t27
-array-read-t27 c = search needs
+array-read-t28 : tie.Need-array-read-t28
+array-read-t28 c = search needs
 
-array-read-t30 : tie.Need-array-read-t30
-array-read-t30 c = search needs
+array-read-t31 : tie.Need-array-read-t31
+array-read-t31 c = search needs
 
-array-read-t34 : tie.Need-array-read-t34
-array-read-t34 c = search needs
+array-read-t35 : tie.Need-array-read-t35
+array-read-t35 c = search needs
 
-array-read-t37 : tie.Need-array-read-t37
-array-read-t37 c = search needs
+array-read-t38 : tie.Need-array-read-t38
+array-read-t38 c = search needs
 
-array-read-t40 : tie.Need-array-read-t40
-array-read-t40 c = search needs
+array-read-t41 : tie.Need-array-read-t41
+array-read-t41 c = search needs
 
-array-read-t44 : tie.Need-array-read-t44
-array-read-t44 c = search needs
+array-read-t45 : tie.Need-array-read-t45
+array-read-t45 c = search needs
 
 enum-known-j : tie.Need-enum-known-j
 enum-known-j c = search needs
@@ -122,14 +122,14 @@ lambert-spec =
     enum-known-way
     read-requires
     enum-known-beginning
-    array-read-t21
-    array-read-t24
-    array-read-t27
-    array-read-t30
-    array-read-t34
-    array-read-t37
-    array-read-t40
-    array-read-t44
+    array-read-t22
+    array-read-t25
+    array-read-t28
+    array-read-t31
+    array-read-t35
+    array-read-t38
+    array-read-t41
+    array-read-t45
     enum-known-j
     enum-known-j-2
     returns-2
