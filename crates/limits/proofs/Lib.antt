@@ -1,0 +1,4 @@
+mod Shared
+mod Bounds
+pub mod Lengths
+mod Examples
