@@ -1,4 +1,3 @@
-mod Shared
 mod Bounds
 pub mod Lengths
 mod Examples

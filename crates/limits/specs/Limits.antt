@@ -11,7 +11,7 @@ use Rattle.figures.specs.Figures.{places, fixedOf}
 use Rattle.table.specs.declared.Limit.{Limit}
 use Rattle.table.specs.declared.Limit.the-variants.{Finite, AtLeast, AtMost, Under, Over, SizeAtMost, SizeUnder, OneWithin}
 use Rattle.table.specs.declared.Entry.{Entry}
-use Rattle.limits.specs.Words.{namePieces}
+use Rattle.names.specs.Names.{namePieces}
 
 -- ---- the number of a limit
 

@@ -6,13 +6,11 @@ use lib.Ieee.{Float}
 use Rattle.text.specs.Text.{ascii, decimal, signedText}
 use Rattle.columns.specs.Rows.{labelledPieces, refusedPieces}
 use Rattle.columns.specs.Rows as Rows
-use Rattle.brackets.specs.Brackets.{judgementPieces, endPieces, stoppedPieces}
+use Rattle.brackets.specs.Brackets.{endPieces, stoppedPieces}
+use Rattle.ends.specs.Ends.{amissPieces}
 use Rattle.limits.specs.Limits.{failedPieces}
 use Rattle.table.specs.declared.Entry.{Entry}
-use Rattle.iterator.specs.declared.Judgement.{Judgement}
 use Rattle.iterator.specs.declared.Bracket.{Bracket}
-use Rattle.reason.specs.declared.Amiss.{Amiss}
-use Rattle.reason.specs.declared.Amiss.the-variants.{LoOffGrid, HiOffGrid, LoNotUnderHi, LoMisjudged, HiMisjudged, LoNotBelow, HiNotAbove, CountOver}
 use Rattle.reason.specs.declared.Stop.{Stop}
 use Rattle.reason.specs.declared.Stop.the-variants as S
 use Rattle.reason.specs.declared.Neighbours.{Neighbours}
@@ -22,29 +20,6 @@ use Rattle.reason.specs.declared.Reason.the-variants as R
 -- `refused N`, a word, `NAME D must be LIMIT bits X`
 unfoldable pub testPieces : List ℕ → Entry → List (List ℕ)
 testPieces word e = ascii "refused " ∷ decimal (e .number) ∷ word ∷ (failedPieces e ++ (ascii "\n" ∷ []))
-
--- ---- a bracket to go on from
-
--- an end's place, and what is amiss with it
-unfoldable pub placePieces : List ℕ → ℤ → List ℕ → List (List ℕ)
-placePieces end n must = end ∷ signedText n ∷ must ∷ []
-
--- the judgement that it must have
-unfoldable pub misjudgedPieces : List ℕ → ℤ → Judgement → List (List ℕ)
-misjudgedPieces end n j = end ∷ signedText n ∷ ascii " must be " ∷ (judgementPieces j ++ (ascii "\n" ∷ []))
-
-unfoldable pub overPieces : ℕ → ℕ → List (List ℕ)
-overPieces count most = ascii "refused 6 count " ∷ decimal count ∷ ascii " must be at most " ∷ decimal most ∷ ascii "\n" ∷ []
-
-abbrev pub amissPieces : Amiss → List (List ℕ)
-amissPieces (LoOffGrid n) = placePieces (ascii "refused 6 lo ") n (ascii " must be on the grid\n")
-amissPieces (HiOffGrid n) = placePieces (ascii "refused 6 hi ") n (ascii " must be on the grid\n")
-amissPieces (LoNotUnderHi n) = placePieces (ascii "refused 6 lo ") n (ascii " must be under hi\n")
-amissPieces (LoMisjudged n j) = misjudgedPieces (ascii "refused 6 lo ") n j
-amissPieces (HiMisjudged n j) = misjudgedPieces (ascii "refused 6 hi ") n j
-amissPieces (LoNotBelow n) = placePieces (ascii "refused 6 lo ") n (ascii " must be low or under\n")
-amissPieces (HiNotAbove n) = placePieces (ascii "refused 6 hi ") n (ascii " must be high or over\n")
-amissPieces (CountOver count most) = overPieces count most
 
 -- ---- neighbours of which one has no time
 

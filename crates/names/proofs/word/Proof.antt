@@ -1,8 +1,8 @@
 -- The line's word at the name's place. Assumes nothing.
 use borrow.Author.Needs.{needs}
 use mathlib.Core.Path.{sym, _∙_}
-use Rattle.limits.proofs.word.Statement.{statement}
-use Rattle.limits.proofs.word.Tie as tie
+use Rattle.names.proofs.word.Statement.{statement}
+use Rattle.names.proofs.word.Tie as tie
 
 place-of-requires : tie.Need-place-of-requires
 place-of-requires c κs = search needs

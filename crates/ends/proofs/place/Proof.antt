@@ -4,9 +4,9 @@ use mir.Syntax.{w64}
 use mir.Facts.{toZ-ofZ}
 use Rattle.text.specs.Pieces.{then}
 use Rattle.text.proofs.Lays.{one}
-use Rattle.reasons.specs.Lines.{placePieces}
-use Rattle.reasons.proofs.place.Statement.{statement}
-use Rattle.reasons.proofs.place.Tie as tie
+use Rattle.ends.specs.Ends.{placePieces}
+use Rattle.ends.proofs.place.Statement.{statement}
+use Rattle.ends.proofs.place.Tie as tie
 
 bytes-requires : tie.Need-bytes-requires
 bytes-requires c κs = search needs

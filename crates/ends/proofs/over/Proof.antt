@@ -2,9 +2,9 @@
 use borrow.Author.Needs.{needs}
 use Rattle.text.specs.Pieces.{then}
 use Rattle.text.proofs.Lays.{one}
-use Rattle.reasons.specs.Lines.{overPieces}
-use Rattle.reasons.proofs.over.Statement.{statement}
-use Rattle.reasons.proofs.over.Tie as tie
+use Rattle.ends.specs.Ends.{overPieces}
+use Rattle.ends.proofs.over.Statement.{statement}
+use Rattle.ends.proofs.over.Tie as tie
 
 slice-aggregate-bytes : tie.Need-slice-aggregate-bytes
 slice-aggregate-bytes c = search needs

@@ -1,8 +1,8 @@
 -- By the part. Assumes nothing.
 use borrow.Author.Needs.{needs}
 use Rattle.text.proofs.Lays.{one}
-use Rattle.limits.proofs.name.Statement.{statement}
-use Rattle.limits.proofs.name.Tie as tie
+use Rattle.names.proofs.name.Statement.{statement}
+use Rattle.names.proofs.name.Tie as tie
 
 enum-told : tie.Need-enum-told
 enum-told c = search needs

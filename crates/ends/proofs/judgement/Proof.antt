@@ -3,8 +3,8 @@ use Rattle.text.specs.Pieces.{then}
 use Rattle.text.proofs.Lays.{one}
 use Rattle.brackets.specs.Brackets.{judgementPieces}
 use borrow.Author.Needs.{needs}
-use Rattle.reasons.proofs.judgement.Statement.{statement}
-use Rattle.reasons.proofs.judgement.Tie as tie
+use Rattle.ends.proofs.judgement.Statement.{statement}
+use Rattle.ends.proofs.judgement.Tie as tie
 
 enum-known-j : tie.Need-enum-known-j
 enum-known-j c = search needs

@@ -4,9 +4,9 @@ use mir.Syntax.{w64}
 use mir.Facts.{toZ-ofZ}
 use Rattle.text.specs.Pieces.{then}
 use Rattle.text.proofs.Lays.{one, and-then}
-use Rattle.reasons.specs.Lines.{misjudgedPieces}
-use Rattle.reasons.proofs.misjudged.Statement.{statement}
-use Rattle.reasons.proofs.misjudged.Tie as tie
+use Rattle.ends.specs.Ends.{misjudgedPieces}
+use Rattle.ends.proofs.misjudged.Statement.{statement}
+use Rattle.ends.proofs.misjudged.Tie as tie
 
 bytes-requires : tie.Need-bytes-requires
 bytes-requires c κs = search needs

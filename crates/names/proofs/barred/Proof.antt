@@ -2,8 +2,8 @@
 use borrow.Author.Needs.{needs}
 use Rattle.text.specs.Pieces.{then}
 use Rattle.text.proofs.Lays.{one}
-use Rattle.limits.proofs.barred.Statement.{statement}
-use Rattle.limits.proofs.barred.Tie as tie
+use Rattle.names.proofs.barred.Statement.{statement}
+use Rattle.names.proofs.barred.Tie as tie
 
 byte-requires : tie.Need-byte-requires
 byte-requires c κs = search needs

@@ -7,7 +7,7 @@ use Rattle.text.specs.Text.{ascii}
 use Rattle.table.specs.declared.Name.{Name}
 use Rattle.table.specs.declared.Name.the-variants as N
 use Rattle.table.proofs.Name.{the-type}
-use Rattle.limits.specs.Words.{wordText}
+use Rattle.names.specs.Names.{wordText}
 
 pub first-or-active : (n : Name) → OneOf (3 ∷ 11 ∷ []) (tagOf the-type n) → ascii "a" ≡ wordText n
 unfolding wordText

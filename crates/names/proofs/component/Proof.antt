@@ -2,8 +2,8 @@
 use borrow.Author.Needs.{needs}
 use Rattle.text.specs.Pieces.{then}
 use Rattle.text.proofs.Lays.{one}
-use Rattle.limits.proofs.component.Statement.{statement}
-use Rattle.limits.proofs.component.Tie as tie
+use Rattle.names.proofs.component.Statement.{statement}
+use Rattle.names.proofs.component.Tie as tie
 
 word-requires : tie.Need-word-requires
 word-requires c κs = search needs

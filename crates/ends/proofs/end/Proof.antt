@@ -4,8 +4,8 @@ use mir.Syntax.{w64}
 use mir.Facts.{toZ-ofZ}
 use Rattle.text.specs.Pieces.{then}
 use Rattle.brackets.specs.Brackets.{endPieces}
-use Rattle.reasons.proofs.end.Statement.{statement}
-use Rattle.reasons.proofs.end.Tie as tie
+use Rattle.ends.proofs.end.Statement.{statement}
+use Rattle.ends.proofs.end.Tie as tie
 
 bytes-requires : tie.Need-bytes-requires
 bytes-requires c κs = search needs

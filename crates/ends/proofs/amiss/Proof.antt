@@ -2,8 +2,8 @@
 use borrow.Author.Needs.{needs}
 use mir.Syntax.{w64}
 use mir.Facts.{toZ-ofZ}
-use Rattle.reasons.proofs.amiss.Statement.{statement}
-use Rattle.reasons.proofs.amiss.Tie as tie
+use Rattle.ends.proofs.amiss.Statement.{statement}
+use Rattle.ends.proofs.amiss.Tie as tie
 
 enum-known-a : tie.Need-enum-known-a
 enum-known-a c = search needs

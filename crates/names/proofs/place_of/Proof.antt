@@ -2,10 +2,10 @@
 use borrow.Author.Needs.{needs}
 use mathlib.Core.Path.{refl}
 use Rattle.words.specs.Words.{wordAt, fromWord, from, upTo, isOf}
-use Rattle.limits.specs.Words.{wordText}
-use Rattle.limits.proofs.Shared.{first-or-active, passive-or-p}
-use Rattle.limits.proofs.place_of.Statement.{statement}
-use Rattle.limits.proofs.place_of.Tie as tie
+use Rattle.names.specs.Names.{wordText}
+use Rattle.names.proofs.Shared.{first-or-active, passive-or-p}
+use Rattle.names.proofs.place_of.Statement.{statement}
+use Rattle.names.proofs.place_of.Tie as tie
 
 enum-told : tie.Need-enum-told
 enum-told c = search needs
