@@ -1,4 +1,4 @@
--- The words that a person reads for the number that a test looks at. Assumes nothing: these are definitions.
+-- What a person reads for the number that a test looks at. Assumes nothing: these are definitions.
 use Prim.Native.Nat.{ℕ}
 use mathlib.Core.List.{List, [], _∷_}
 use Rattle.text.specs.Text.{ascii}
@@ -7,7 +7,7 @@ use Rattle.table.specs.declared.Name.the-variants as N
 use Rattle.table.specs.declared.Part.{Part}
 use Rattle.table.specs.declared.Part.the-variants as Pa
 
--- the table: a number by its name, a vector by its letter
+-- the table: a number by its name, a vector by its letter, as at the desk. `a` and `p` stand twice, and no routine has both.
 unfoldable pub wordText : Name → List ℕ
 -- inputs
 wordText N.Mu = ascii "mu"

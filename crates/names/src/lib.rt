@@ -52,7 +52,8 @@ fn place_of(n: Name) -> u64
 fn word(buf: &mut [u8], at: usize, n: Name) -> usize
     ensures { λ r. ⌜ Put (now (buf .entry)) at (wordText n) (now (buf .exit)) r ⌝ }
 {
-    let all = b"mu r v a b n t sin cos lo hi p elevation h u radius closed fair |u1xu2| 1-cos cos2+sin2-1 c1 c2 r1/r2 sin/(1-cos) cot e den W radicand x xi time";
+    let all =
+        b"mu r v a b n t sin cos lo hi p elevation h u radius closed fair |u1xu2| 1-cos cos2+sin2-1 c1 c2 r1/r2 sin/(1-cos) cot e den W radicand x xi time";
     text::bytes(buf, at, words::word(all, place_of(n)))
 }
 
