@@ -266,6 +266,17 @@ static void some_cdh(word *w)
     w[18].whole = one_in(8) ? INT64_MAX : t2 > INT64_MAX - 70000 ? t2 : t2 + (one_in(4) ? 60000 + beside() : 600000);
 }
 
+/* An orbit so wide that the grid ends within a turn, in the time behind that end or beside it. */
+static void put_wide(request *q)
+{
+    orbit o = { .mu = uniform(0x1p35, 0x1p36) };
+    vector up = direction();
+    double r = uniform(0x1.9Ap28, 0x1p29), speed = sqrt(o.mu / r);
+    o.at = (state){ times(r, up), times(speed * uniform(0.99, 1.01), across(up)) };
+    put_orbit(q, &o);
+    q->words[7].number = either_sign(6.283185307179586 * r / speed * uniform(0.9, 1));
+}
+
 request some_request(enum routine routine)
 {
     request q = { .routine = routine };
@@ -297,6 +308,8 @@ request some_request(enum routine routine)
         if (routine == KEPLER) {
             q.words[7].number = either_sign(some_time(&o));
             q.words[8].terms = usual_terms;
+            if (one_in(48))
+                put_wide(&q);
         }
         if (routine == THETA)
             some_angle(q.words + 7, &o);
