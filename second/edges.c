@@ -141,10 +141,11 @@ const char *const edges[] = {
     "lambert 4294967296 4194304 0 0 0 4194304 0 200000 long limit 14 version 1",
     "lambert 4294967296 4194304 0 0 0 4194304 0 0 long version 1",
 
-    /* T-07: the grid's own end above an advance, where it is stopped by its time, by ξ and by nothing; either end of a
-     * transfer's; the stops of a transfer; two failures in a row of 01's table and in two; back in time; no number */
+    /* T-07: the grid's own end above an advance, where its time would be 2^28 and beyond; stops by the time and by ξ; either
+     * end of a transfer's grid, and its stops; two failures in a row of 01's table and in two; back in time; no number */
     "why kepler 68719476735 440000000 0 0 0 12.4973 0 220111150",
     "why kepler 68719476735 440000000 0 0 0 12.4973 0 220000541",
+    "why kepler 50982027264 462422016 0 0 0 10.5 0 268435456", "why kepler 50982027263.8 462422016 0 0 0 10.5 0 268435456",
     "why kepler 268435456 268435456 0 0 0 1 0 268435456",
     "why kepler 4294967296 4194304 0 0 0 96 0 200000000", "why kepler 4294967296 4194304 0 0 0 32 0 -64",
     "why kepler 1 1 0 0 129 -130 0 64", "why kepler 4294967296 4194304 0 0 -129 200 0 -64",
@@ -154,6 +155,8 @@ const char *const edges[] = {
     "why kepler 268435456 268435456 0 0 100 80 0 1000", "why kepler 4294967296 268435456 268435456 268435456 0 0 0 1000",
     "why kepler 17179869184 268435456 0 0 64 0 0 -1000", "why kepler 268435456 268435456 0 0 128 0 0 -1000",
     "why kepler 39860320000 -454198.927609 99857 -2605 25.05 24 38 -1709.273956733",
+    "why kepler 68719476735 29856729 -21596100 -53402265 127 -124.6 -125.2 -8117853",
+    "why kepler 68719476735 33637454 45706474 29748170 127.9 -127.5 -124.1 5084935",
     "why kepler 4294967296 4194304 0 0 0 32 0 64 from 0 low:x7FF0000000000000 1 over 0",
     "why kepler 4294967296 4194304 0 0 0 32 0 64 from 0 low:0 1 high:x7FF8000000000000 0",
     "why kepler 4294967296 4194304 0 0 0 32 0 64 from -1 low:0 137438953473 over 75",

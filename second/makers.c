@@ -230,14 +230,19 @@ static state beside_orbit(const orbit *o)
     return (state){ times(r2, over(to, length(to))), times(speed, forward) };
 }
 
+static int64_t wrapped_sum(int64_t a, int64_t b)
+{
+    return (int64_t)((uint64_t)a + (uint64_t)b);
+}
+
 static int64_t some_whole_time(int64_t about)
 {
     static const int64_t limits[] = { INT64_C(1) << 28, (INT64_C(1) << 28) + 1, -(INT64_C(1) << 28), -(INT64_C(1) << 28) - 1 };
     if (one_in(12))
-        return about - limits[below(4)];
+        return wrapped_sum(about, -limits[below(4)]);
     if (one_in(32))
         return one_in(2) ? INT64_MIN : INT64_MAX;
-    return one_in(4) ? about : about + (int64_t)below(2000000) - 1000000;
+    return one_in(4) ? about : wrapped_sum(about, (int64_t)below(2000000) - 1000000);
 }
 
 /* A passive vehicle on a nearly circular orbit, mostly, and an active one that is to fly beside it. */

@@ -126,7 +126,7 @@ REQUESTS = [
     ("T-07: the length tested ahead of the components", "tests.c", "    under(f, 3, name, r, 0x1p29, \"under 2^29 in size\");\n    must(f, r_length >= 0x1p18, 3, name[3], r_length, \"at least 2^18\");\n    must(f, r_length < 0x1p29, 3, name[3], r_length, \"under 2^29\");\n", "    must(f, r_length >= 0x1p18, 3, name[3], r_length, \"at least 2^18\");\n    must(f, r_length < 0x1p29, 3, name[3], r_length, \"under 2^29\");\n    under(f, 3, name, r, 0x1p29, \"under 2^29 in size\");\n"),
     ("T-07: c2 tested ahead of c1", "kepler.c", "    must(f, fabs(k->c1) <", "    must(f, fabs(k->c2) < 0x1p6, 6, \"c2\", k->c2, \"under 2^6 in size\");\n    must(f, fabs(k->c1) <"),
     ("T-07: the turn tested ahead of r1/r2", "lambert.c", "    must(f, l.ratio <", "    turn_test(f, l.transfer.turn);\n    must(f, l.ratio <"),
-    ("T-07: p tested ahead of cot", "theta.c", "    must(f, fabs(cot) <=", "    must(f, p_n <= 16, 6, \"p\", p_n, \"at most 2^4\");\n    must(f, fabs(cot) <="),
+    ("T-07: cot tested ahead of c2", "theta.c", "    must(f, fabs(c2) <", "    must(f, fabs(cot) <= 0x1p5, 6, \"cot\", cot, \"at most 2^5 in size\");\n    must(f, fabs(c2) <"),
     ("T-07: the turn tested ahead of p in Time-Theta", "theta.c", "    must(f, p_n <= 16", "    turn_test(f, way.turn);\n    must(f, p_n <= 16"),
     ("T-07: e tested ahead of p", "apsides.c", "    must(f, p_n <= 16", "    must(f, e < 0x1p3, 6, \"e\", e, \"under 2^3\");\n    must(f, p_n <= 16"),
     ("T-07: the run's times tested ahead of the time", "kepler.c", "    must_be_finite(f, \"t\", time);\n", "    continuation_times(f, on);\n    must_be_finite(f, \"t\", time);\n"),
