@@ -149,7 +149,7 @@ REQUESTS = [
     ("T-07: `<` for `≤` at a trial's ξ = −50", "solve.c", "!(xi < xi_least)", "xi > xi_least"),
     ("T-07: the normal's length shown less 1", "lambert.c", "of_n[3], length(normal),", "of_n[3], off,"),
     ("T-07: the circle's fault shown in size", "theta.c", "\"cos2+sin2-1\", off,", "\"cos2+sin2-1\", fabs(off),"),
-    ("T-07: p shown for p_N", "solve.c", "19, \"p\", p_n,", "19, \"p\", p_n * 0x1p22,"),
+    ("T-07: p shown 2^22 times as large", "solve.c", "19, \"p\", p_n,", "19, \"p\", p_n * 0x1p22,"),
     ("T-07: the stated judgement told for the fresh one", "going_on.c", ".afresh = afresh }", ".afresh = stated }"),
     ("T-07: hi's place tested ahead of lo's", "going_on.c", "    place_must(f, on_grid(g, b->lo), \"lo\", b->lo, \"on the grid\");\n    place_must(f, on_grid(g, b->hi), \"hi\", b->hi, \"on the grid\");\n", "    place_must(f, on_grid(g, b->hi), \"hi\", b->hi, \"on the grid\");\n    place_must(f, on_grid(g, b->lo), \"lo\", b->lo, \"on the grid\");\n"),
     ("T-07: the ends' order tested ahead of the grid", "going_on.c", "    place_must(f, on_grid(g, b->lo), \"lo\"", "    place_must(f, b->lo < b->hi, \"lo\", b->lo, \"under hi\");\n    place_must(f, on_grid(g, b->lo), \"lo\""),
