@@ -5,6 +5,7 @@
 
 #include "iterator.h"
 #include "series.h"
+#include "tests.h"
 #include "vector.h"
 
 #include <stdint.h>
@@ -48,11 +49,20 @@ solution transfer_velocity(double mu, vector from, vector to, double time, way w
 solution kepler(double mu, state from, double time);
 solution lambert(double mu, vector from, vector to, double time, bool long_way);
 
-/* The judgement of a point of their grids, for inputs that pass the tests up to 6. */
+/* The judgement of a point of their grids, and the range test that leaves it without a time (none at the grid's own ends),
+ * for inputs that pass the tests up to 6. */
 judgement advance_judged(double mu, state from, double time, int64_t n);
 judgement transfer_judged(double mu, vector from, vector to, double time, way way, int64_t n);
+failure advance_stop(double mu, state from, double time, int64_t n);
+failure transfer_stop(double mu, vector from, vector to, double time, way way, int64_t n);
 
 number time_theta(double mu, state from, double sine, double cosine);
 apses apsides(double mu, state at);
+
+/* The same solves, with the first test that failed told; 29, 8 and 7 of an advance and a transfer are no test's. */
+solution advance_told(failure *f, double mu, state from, double time, terms on);
+solution transfer_told(failure *f, double mu, vector from, vector to, double time, way way, terms on);
+number theta_told(failure *f, double mu, state from, double sine, double cosine);
+apses apsides_told(failure *f, double mu, state at);
 
 #endif

@@ -92,6 +92,11 @@ static bool read_routine(span w, enum routine *out)
     return routine < ROUTINES;
 }
 
+bool is_solve(enum routine routine)
+{
+    return routine == KEPLER || routine == LAMBERT || routine == THETA || routine == APSIDES;
+}
+
 int read_request(const char *line, size_t length, request *out)
 {
     reader from;
@@ -99,7 +104,10 @@ int read_request(const char *line, size_t length, request *out)
     int begun = first_word(line, length, &from, &name);
     if (begun != READ)
         return begun;
-    if (!read_routine(name, &out->routine))
+    out->why = span_is(name, "why");
+    if (out->why)
+        name = next_word(&from);
+    if (!read_routine(name, &out->routine) || (out->why && !is_solve(out->routine)))
         return from.number;
     word *w = out->words;
     for (const char *letter = forms[out->routine].words; *letter; letter++)
@@ -129,7 +137,7 @@ static void say_trial(pen *p, const word *w)
         say(p, "point %" PRId64, a.n);
 }
 
-static void say_judgement(pen *p, judgement j)
+void say_judgement(pen *p, judgement j)
 {
     static const char *const heads[] = { [UNDER] = "under", [LOW] = "low:", [HIGH] = "high:", [OVER] = "over" };
     say(p, "%s", heads[j.as]);
@@ -138,7 +146,7 @@ static void say_judgement(pen *p, judgement j)
 }
 
 /* What can be put behind the request as it is. */
-static void say_stopped_run(pen *p, const bracket *at)
+void say_stopped_run(pen *p, const bracket *at)
 {
     say(p, " from %" PRId64 " ", at->lo);
     say_judgement(p, at->below);
@@ -203,12 +211,12 @@ static void say_cdh(pen *p, cdh_answer a)
                     (double[]){ c.x, c.y, c.z, a.after.near, a.after.far });
 }
 
-static vector vector_at(const word *w)
+vector vector_at(const word *w)
 {
     return (vector){ w[0].number, w[1].number, w[2].number };
 }
 
-static state state_at(const word *w)
+state state_at(const word *w)
 {
     return (state){ vector_at(w), vector_at(w + 3) };
 }
@@ -240,6 +248,10 @@ void answer_request(const request *asked, const settings *kept, char out[ANSWER_
 {
     const word *w = asked->words;
     pen p = { out };
+    if (asked->why) {
+        say_why(&p, asked, kept);
+        return;
+    }
     switch (asked->routine) {
     case ROOT:
         say_number(&p, "value D", root(w[0].number));

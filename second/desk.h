@@ -16,6 +16,9 @@ typedef struct { const char *name, *words; } form;
 
 extern const form forms[ROUTINES];
 
+/* Kepler, Lambert, Time-Theta and Periapo, in front of which `why` may stand. */
+bool is_solve(enum routine routine);
+
 enum { WORDS_MAX = 19, ANSWER_MAX = 800 };
 
 typedef union {
@@ -27,7 +30,8 @@ typedef union {
     terms terms;
 } word;
 
-typedef struct { enum routine routine; word words[WORDS_MAX]; } request;
+/* Asked for its answer, or why it refuses. */
+typedef struct { bool why; enum routine routine; word words[WORDS_MAX]; } request;
 
 /* READ, NOTHING, or the number of the first word that cannot be read. */
 int read_request(const char *line, size_t length, request *out);
@@ -35,5 +39,13 @@ int read_request(const char *line, size_t length, request *out);
 /* Both without a newline. */
 void answer_request(const request *asked, const settings *kept, char out[ANSWER_MAX]);
 void answer_line(int unread, const request *asked, const settings *kept, char out[ANSWER_MAX]);
+
+/* What `why` takes and says too. */
+vector vector_at(const word *w);
+state state_at(const word *w);
+void say_judgement(pen *p, judgement j);
+void say_stopped_run(pen *p, const bracket *at);
+
+void say_why(pen *p, const request *asked, const settings *kept);
 
 #endif

@@ -28,13 +28,30 @@ static bool to_the_bit(judgement a, judgement b)
     return a.as == b.as && (!carries_time(a) || bits_of(a.time) == bits_of(b.time));
 }
 
+static void place_must(failure *f, bool holds, const char *name, int64_t place, const char *limit)
+{
+    if (f->number == 0 && !holds)
+        *f = (failure){ 6, PLACE, name, limit, .place = place };
+}
+
+static void must_be_judged(failure *f, const char *name, int64_t place, judgement stated, judgement afresh)
+{
+    if (f->number == 0 && !to_the_bit(stated, afresh))
+        *f = (failure){ 6, JUDGED_PLACE, name, .place = place, .afresh = afresh };
+}
+
+static void count_must(failure *f, bool holds, uint64_t count, const char *limit)
+{
+    if (f->number == 0 && !holds)
+        *f = (failure){ 6, TALLY, "count", limit, .tally = count };
+}
+
 static void end_tests(failure *f, const grid *g, const bracket *b)
 {
-    judgement below = judged_afresh(g, b->lo), above = judged_afresh(g, b->hi);
-    must(f, to_the_bit(b->below, below), 6, "lo", (double)b->lo, "judged as stated");
-    must(f, to_the_bit(b->above, above), 6, "hi", (double)b->hi, "judged as stated");
-    must(f, b->below.as == LOW || b->below.as == UNDER, 6, "lo", (double)b->lo, "low or under");
-    must(f, b->above.as == HIGH || b->above.as == OVER, 6, "hi", (double)b->hi, "high or over");
+    must_be_judged(f, "lo", b->lo, b->below, judged_afresh(g, b->lo));
+    must_be_judged(f, "hi", b->hi, b->above, judged_afresh(g, b->hi));
+    place_must(f, b->below.as == LOW || b->below.as == UNDER, "lo", b->lo, "low or under");
+    place_must(f, b->above.as == HIGH || b->above.as == OVER, "hi", b->hi, "high or over");
 }
 
 void continuation_tests(failure *f, const grid *g, const terms *on)
@@ -42,13 +59,13 @@ void continuation_tests(failure *f, const grid *g, const terms *on)
     const bracket *b = &on->from;
     if (f->number || !on->continued)
         return;
-    must(f, on_grid(g, b->lo), 6, "lo", (double)b->lo, "on the grid");
-    must(f, on_grid(g, b->hi), 6, "hi", (double)b->hi, "on the grid");
-    must(f, b->lo < b->hi, 6, "lo", (double)b->lo, "under hi");
+    place_must(f, on_grid(g, b->lo), "lo", b->lo, "on the grid");
+    place_must(f, on_grid(g, b->hi), "hi", b->hi, "on the grid");
+    place_must(f, b->lo < b->hi, "lo", b->lo, "under hi");
     if (f->number)
         return;
     end_tests(f, g, b);
-    must(f, b->count <= g->most, 6, "count", (double)b->count, "at most 2b");
+    count_must(f, b->count <= g->most, b->count, g->most == 74 ? "at most 74" : "at most 52");
 }
 
 bracket trials_made(const grid *g, double asked, const terms *on)

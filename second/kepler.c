@@ -27,13 +27,23 @@ static advance advance_of(double mu, state from, double size)
     return k;
 }
 
+static double time_of(failure *f, const advance *k, int64_t n)
+{
+    double x = grid_step(n), xi = k->alpha * (x * x);
+    xi_tests(f, 7, xi);
+    if (f->number)
+        return 0;
+    double t = time_at(k->c1, k->c2, k->r1, k->root_mu, x, xi);
+    trial_time_test(f, t);
+    return t;
+}
+
 static judgement judge_advance(const void *problem, int64_t n)
 {
     const advance *k = problem;
-    double x = grid_step(n), xi = k->alpha * (x * x);
-    if (!xi_in_range(xi))
-        return (judgement){ OVER, 0 };
-    return judged(timed(time_at(k->c1, k->c2, k->r1, k->root_mu, x, xi)), k->rest);
+    failure f = { 0 };
+    double t = time_of(&f, k, n);
+    return judged(&f, t, k->rest);
 }
 
 /* The state after n steps of the grid, which took the time t. */
@@ -96,24 +106,29 @@ static advance posed(failure *f, double mu, state from, double time, const terms
     return k;
 }
 
-solution advance_state(double mu, state from, double time, terms on)
+solution advance_told(failure *f, double mu, state from, double time, terms on)
 {
-    failure f = { 0 };
-    advance k = posed(&f, mu, from, time, &on);
-    if (f.number)
-        return (solution){ .refused = f.number };
+    advance k = posed(f, mu, from, time, &on);
+    if (f->number)
+        return (solution){ .refused = f->number };
     grid g = grid_of(&k);
     solution found = closed_in(trials_made(&g, k.rest, &on), k.rest, k.size, on.grades);
     if (found.refused)
         return found;
     state to = state_at(&k, ahead_of(from, time), found.n, found.time);
-    result_tests(&f, to);
-    if (f.number)
-        return (solution){ .refused = f.number };
+    result_tests(f, to);
+    if (f->number)
+        return (solution){ .refused = f->number };
     found.turns = k.turns;
     found.r = to.r;
     found.v = time < 0 ? negated(to.v) : to.v;
     return found;
+}
+
+solution advance_state(double mu, state from, double time, terms on)
+{
+    failure f = { 0 };
+    return advance_told(&f, mu, from, time, on);
 }
 
 solution kepler(double mu, state from, double time)
@@ -127,4 +142,14 @@ judgement advance_judged(double mu, state from, double time, int64_t n)
     advance k = posed(&f, mu, from, time, &usual_terms);
     grid g = grid_of(&k);
     return judged_afresh(&g, n);
+}
+
+failure advance_stop(double mu, state from, double time, int64_t n)
+{
+    failure f = { 0 };
+    advance k = posed(&f, mu, from, time, &usual_terms);
+    grid g = grid_of(&k);
+    if (n != g.ends.lo && n != g.ends.hi)
+        time_of(&f, &k, n);
+    return f;
 }

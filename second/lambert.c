@@ -10,24 +10,28 @@ typedef struct {
     vector u1, normal;
 } between_positions;
 
-/* Steps 1 and 2: p of a cot, or false. */
-static bool p_at(const between_positions *l, double cot, double *p)
+/* Steps 1 and 2: p of a cot. */
+static double p_at(failure *f, const between_positions *l, double cot)
 {
-    double den = (l->ratio - l->cosine) + l->sine * cot;
-    if (!(den > 0))
-        return false;
-    *p = (1 - l->cosine) / den;
-    return *p <= 16;
+    int without = l->sine >= 0 ? 8 : 7;
+    double den = (l->ratio - l->cosine) + l->sine * cot, p = (1 - l->cosine) / den;
+    must(f, den > 0, without, "den", den, "over 0");
+    must(f, p <= 16, without, "p", p, "at most 2^4");
+    return p;
+}
+
+static double time_of(failure *f, const between_positions *l, int64_t n)
+{
+    double cot = grid_step(n), p = p_at(f, l, cot);
+    return f->number ? 0 : flight_time(f, &l->transfer, p, cot, 2 - p * (1 + cot * cot));
 }
 
 static judgement judge_transfer(const void *problem, int64_t n)
 {
     const between_positions *l = problem;
-    double cot = grid_step(n), p;
-    if (!p_at(l, cot, &p))
-        return (judgement){ l->sine >= 0 ? UNDER : OVER, 0 };
-    double alpha_n = 2 - p * (1 + cot * cot);
-    return judged(flight_of(&l->transfer, p, cot, alpha_n), l->asked);
+    failure f = { 0 };
+    double t = time_of(&f, l, n);
+    return judged(&f, t, l->asked);
 }
 
 static void input_tests(failure *f, double mu, vector from, vector to, double time, way way, const terms *on)
@@ -93,24 +97,29 @@ static between_positions posed(failure *f, double mu, vector from, vector to, do
 
 static vector velocity_at(const between_positions *l, int64_t n)
 {
-    double cot = grid_step(n), p = 0;
-    p_at(l, cot, &p);
+    failure f = { 0 };
+    double cot = grid_step(n), p = p_at(&f, l, cot);
     return times(sqrt(l->mu * p / l->transfer.r1), plus(times(cot, l->u1), cross(l->normal, l->u1)));
 }
 
-solution transfer_velocity(double mu, vector from, vector to, double time, way way, terms on)
+solution transfer_told(failure *f, double mu, vector from, vector to, double time, way way, terms on)
 {
-    failure f = { 0 };
-    between_positions l = posed(&f, mu, from, to, time, way, &on);
-    if (f.number)
-        return (solution){ .refused = f.number };
+    between_positions l = posed(f, mu, from, to, time, way, &on);
+    if (f->number)
+        return (solution){ .refused = f->number };
     grid g = grid_of(&l);
     solution found = closed_in(trials_made(&g, time, &on), time, time, on.grades);
     if (found.refused)
         return found;
     found.v = velocity_at(&l, found.n);
-    velocity_result(&f, found.v);
-    return f.number ? (solution){ .refused = f.number } : found;
+    velocity_result(f, found.v);
+    return f->number ? (solution){ .refused = f->number } : found;
+}
+
+solution transfer_velocity(double mu, vector from, vector to, double time, way way, terms on)
+{
+    failure f = { 0 };
+    return transfer_told(&f, mu, from, to, time, way, on);
 }
 
 solution lambert(double mu, vector from, vector to, double time, bool long_way)
@@ -124,4 +133,14 @@ judgement transfer_judged(double mu, vector from, vector to, double time, way wa
     between_positions l = posed(&f, mu, from, to, time, way, &usual_terms);
     grid g = grid_of(&l);
     return judged_afresh(&g, n);
+}
+
+failure transfer_stop(double mu, vector from, vector to, double time, way way, int64_t n)
+{
+    failure f = { 0 };
+    between_positions l = posed(&f, mu, from, to, time, way, &usual_terms);
+    grid g = grid_of(&l);
+    if (n != g.ends.lo && n != g.ends.hi)
+        time_of(&f, &l, n);
+    return f;
 }

@@ -25,16 +25,11 @@ static int64_t last_point(const request *q)
     return INT64_C(1) << (is_advance(q) ? 37 : 25);
 }
 
-static vector vector_at(const word *w)
-{
-    return (vector){ w[0].number, w[1].number, w[2].number };
-}
-
 static solution run_of(const request *q, terms on)
 {
     const word *w = q->words;
     if (is_advance(q))
-        return advance_state(w[0].number, (state){ vector_at(w + 1), vector_at(w + 4) }, w[7].number, on);
+        return advance_state(w[0].number, state_at(w + 1), w[7].number, on);
     return transfer_velocity(w[0].number, vector_at(w + 1), vector_at(w + 4), w[7].number, w[8].way, on);
 }
 
@@ -42,7 +37,7 @@ static judgement judgement_at(const request *q, int64_t n)
 {
     const word *w = q->words;
     if (is_advance(q))
-        return advance_judged(w[0].number, (state){ vector_at(w + 1), vector_at(w + 4) }, w[7].number, n);
+        return advance_judged(w[0].number, state_at(w + 1), w[7].number, n);
     return transfer_judged(w[0].number, vector_at(w + 1), vector_at(w + 4), w[7].number, w[8].way, n);
 }
 

@@ -104,6 +104,8 @@ static spelling spelled(const request *q, bool decimal)
 {
     spelling s = { .count = 0 };
     const word *w = q->words;
+    if (q->why)
+        strcpy(new_word(&s), "why");
     strcpy(new_word(&s), forms[q->routine].name);
     for (const char *letter = forms[q->routine].words; *letter; letter++)
         spell_part(&s, *letter, w++, decimal);
@@ -143,6 +145,7 @@ const char *bad_word(void)
         "high:-0", "low:+0.5", "18446744073709551615", "18446744073709551616", "9223372036854775807",
         "9223372036854775808", "-9223372036854775808", "-9223372036854775809", "+5", "-0", "5-", "\xCE\xBE",
         "short", "long", "normal", "Short", "shorter", "#", "from", "limit", "From", "limits", "version", "versions",
+        "why", "kepler", "theta",
     };
     return bad[below(sizeof bad / sizeof *bad)];
 }

@@ -230,14 +230,19 @@ static state beside_orbit(const orbit *o)
     return (state){ times(r2, over(to, length(to))), times(speed, forward) };
 }
 
+static int64_t wrapped_sum(int64_t a, int64_t b)
+{
+    return (int64_t)((uint64_t)a + (uint64_t)b);
+}
+
 static int64_t some_whole_time(int64_t about)
 {
     static const int64_t limits[] = { INT64_C(1) << 28, (INT64_C(1) << 28) + 1, -(INT64_C(1) << 28), -(INT64_C(1) << 28) - 1 };
     if (one_in(12))
-        return about - limits[below(4)];
+        return wrapped_sum(about, -limits[below(4)]);
     if (one_in(32))
         return one_in(2) ? INT64_MIN : INT64_MAX;
-    return one_in(4) ? about : about + (int64_t)below(2000000) - 1000000;
+    return one_in(4) ? about : wrapped_sum(about, (int64_t)below(2000000) - 1000000);
 }
 
 /* A passive vehicle on a nearly circular orbit, mostly, and an active one that is to fly beside it. */
@@ -264,6 +269,17 @@ static void some_cdh(word *w)
     w[16].whole = some_whole_time(t2);
     w[17].whole = t2;
     w[18].whole = one_in(8) ? INT64_MAX : t2 > INT64_MAX - 70000 ? t2 : t2 + (one_in(4) ? 60000 + beside() : 600000);
+}
+
+/* An orbit so wide that the grid ends within a turn, in the time behind that end or beside it. */
+static void put_wide(request *q)
+{
+    orbit o = { .mu = uniform(0x1p35, 0x1p36) };
+    vector up = direction();
+    double r = uniform(0x1.9Ap28, 0x1p29), speed = sqrt(o.mu / r);
+    o.at = (state){ times(r, up), times(speed * uniform(0.99, 1.01), across(up)) };
+    put_orbit(q, &o);
+    q->words[7].number = either_sign(6.283185307179586 * r / speed * uniform(0.9, 1));
 }
 
 request some_request(enum routine routine)
@@ -297,6 +313,8 @@ request some_request(enum routine routine)
         if (routine == KEPLER) {
             q.words[7].number = either_sign(some_time(&o));
             q.words[8].terms = usual_terms;
+            if (one_in(48))
+                put_wide(&q);
         }
         if (routine == THETA)
             some_angle(q.words + 7, &o);

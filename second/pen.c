@@ -18,7 +18,7 @@ void say(pen *p, const char *text, ...)
 void say_decimal(pen *p, double x)
 {
     if (!(fabs(x) < 0x1p43)) {
-        say(p, "large");
+        say(p, isnan(x) ? "nan" : "large");
         return;
     }
     uint64_t bits = bits_of(x), significand = bits & 0xFFFFFFFFFFFFF, exponent = bits >> 52 & 0x7FF;
@@ -33,7 +33,7 @@ void say_decimal(pen *p, double x)
 
 void say_bits(pen *p, double x)
 {
-    say(p, "x%016" PRIX64, bits_of(x));
+    say(p, "x%016" PRIX64, isnan(x) ? 0x7FF8000000000000 : bits_of(x));
 }
 
 void say_numbers(pen *p, const char *shape, const double numbers[])

@@ -70,13 +70,30 @@ static request at_a_limit(request q)
     return q;
 }
 
-/* The kind of an answer: its refusal, its turns or its grade, or its first word. */
-static void kind_of_answer(const request *q, const char *by, char kind[16])
+static bool is_amount(const char *word)
+{
+    return strspn(word, "0123456789.-") == strlen(word) || strcmp(word, "nan") == 0 || strcmp(word, "large") == 0
+           || (*word == 'x' && strlen(word) == 17) || strchr(word, ':');
+}
+
+/* A reason without its amounts. */
+static void kind_of_reason(char *text, char kind[ANSWER_MAX])
+{
+    int length = 0, number = 0;
+    for (char *word = strtok(text, " "); word; word = strtok(NULL, " "))
+        if (number++ < 2 || !is_amount(word))
+            length += sprintf(kind + length, "%s ", word);
+}
+
+/* The kind of an answer: its refusal, its turns or its grade, or its first word; of a reason, all but the amounts. */
+static void kind_of_answer(const request *q, const char *by, char kind[ANSWER_MAX])
 {
     char text[ANSWER_MAX];
     answer_request(q, &(settings){ NULL, 0 }, text);
     const char *found = strstr(text, by);
-    if (text[0] == 'r')
+    if (q->why)
+        kind_of_reason(text, kind);
+    else if (text[0] == 'r')
         snprintf(kind, 16, "%.15s", text);
     else
         sscanf(found ? found + strlen(by) : text, "%15s", kind);
@@ -86,7 +103,7 @@ static void kind_of_answer(const request *q, const char *by, char kind[16])
  * neighbours, the first with an answer of q's kind and, if other's kind differs, the second not. */
 static void find_edge(request *q, request *other, size_t k, const char *by)
 {
-    char kind[16], at_middle[16];
+    char kind[ANSWER_MAX], at_middle[ANSWER_MAX];
     kind_of_answer(q, by, kind);
     int64_t alike = key_of(q->words[k].number), unlike = key_of(other->words[k].number);
     while ((alike < unlike ? (uint64_t)unlike - (uint64_t)alike : (uint64_t)alike - (uint64_t)unlike) > 1) {
@@ -122,6 +139,8 @@ static void emit_request(const request *q, bool decimal)
     request named = *q;
     if (takes_terms(q) && one_in(12))
         some_version(&named);
+    if (is_solve(q->routine) && one_in(5))
+        named.why = true;
     emit(spelled_line(&named, decimal));
 }
 
@@ -129,6 +148,7 @@ static void emit_request(const request *q, bool decimal)
 static void emit_edge(request q)
 {
     size_t k = some_field(&q);
+    q.why = is_solve(q.routine) && one_in(3);
     request other = q, fresh = some_request(q.routine);
     double x = q.words[k].number, factor = scaled(0, 20);
     double far[] = { fresh.words[k].number, x * factor, x / factor, some_limit(meanings[q.routine][k]) };
@@ -164,6 +184,37 @@ static void emit_wheel(void)
         emit_request(&(request){ .routine = WHEEL, .words[0].count = e }, false);
 }
 
+static void emit_why(request q)
+{
+    q.why = true;
+    emit(spelled_line(&q, false));
+}
+
+/* Each number of a solve in turn, not finite. */
+static void emit_not_finite(void)
+{
+    static const char *const solves[] = {
+        "kepler 4294967296 4194304 0 0 0 32 0 -64", "lambert 4294967296 4194304 0 0 -4194304 0 0 400000 normal 0 0 1",
+        "theta 4294967296 4194304 0 0 0 32 0 1 0", "apsides 4294967296 4194304 0 0 0 32 0",
+    };
+    const double odd[] = { INFINITY, -INFINITY, of_bits(0x7FF0000000000001), of_bits(UINT64_MAX) };
+    for (size_t s = 0; s < sizeof solves / sizeof *solves; s++) {
+        request q;
+        read_request(solves[s], strlen(solves[s]), &q);
+        for (size_t k = 0; forms[q.routine].words[k] == 'n'; k++) {
+            request with = q;
+            with.words[k].number = odd[k % 4];
+            emit_why(with);
+        }
+        for (int k = 0; q.routine == LAMBERT && k < 3; k++) {
+            request with = q;
+            vector *n = &with.words[8].way.normal;
+            *(k == 0 ? &n->x : k == 1 ? &n->y : &n->z) = odd[k];
+            emit_why(with);
+        }
+    }
+}
+
 static void emit_some(void)
 {
     static const enum routine often[] = {
@@ -176,6 +227,7 @@ static void emit_some(void)
             some_terms(&q);
         if (takes_terms(&q) && one_in(4))
             some_version(&q);
+        q.why = one_in(is_solve(q.routine) ? 3 : 12);
         emit(spoilt_line(&q, one_in(4)));
         return;
     }
@@ -202,6 +254,7 @@ void make_requests(uint64_t seed, uint64_t count)
     for (size_t k = 0; k < edge_count; k++)
         emit_text(edges[k]);
     emit_wheel();
+    emit_not_finite();
     while (left > 0)
         emit_some();
 }

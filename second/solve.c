@@ -49,16 +49,22 @@ double time_at(double c1, double c2, double r1, double root_mu, double x, double
     return (c1 * (z * at.c) + x * (c2 * (z * at.s) + r1)) / root_mu;
 }
 
-flight timed(double t)
+void xi_tests(failure *f, int below, double xi)
 {
-    return (flight){ time_in_range(t) ? TIMED : TOO_SLOW, t };
+    must(f, !(xi < xi_least), below, "xi", xi, "at least -50");
+    must(f, xi <= xi_most, 7, "xi", xi, "at most 40");
 }
 
-judgement judged(flight f, double asked)
+void trial_time_test(failure *f, double t)
 {
-    if (f.as != TIMED)
-        return (judgement){ f.as == TOO_FAST ? UNDER : OVER, 0 };
-    return (judgement){ f.t <= asked ? LOW : HIGH, f.t };
+    must(f, time_in_range(t), 7, "time", t, "at most 2^28 in size");
+}
+
+judgement judged(const failure *f, double t, double asked)
+{
+    if (f->number)
+        return (judgement){ f->number == 8 ? UNDER : OVER, 0 };
+    return (judgement){ t <= asked ? LOW : HIGH, t };
 }
 
 solution closed_in(bracket b, double trials_time, double size, fractions grades)

@@ -24,11 +24,11 @@ double grid_step(int64_t n);
 /* t = (c1·(z·c) + x·(c2·(z·s) + r1))/√mu with z = x·x. */
 double time_at(double c1, double c2, double r1, double root_mu, double x, double xi);
 
-/* The way to a grid point has a time, or is too fast or too slow to have one. */
-typedef struct { enum { TIMED, TOO_FAST, TOO_SLOW } as; double t; } flight;
+/* The range tests of a trial: 8 leaves it under, too fast for a time, and 7 over, too slow. */
+void xi_tests(failure *f, int below, double xi);
+void trial_time_test(failure *f, double t);
 
-flight timed(double t);
-judgement judged(flight f, double asked);
+judgement judged(const failure *f, double t, double asked);
 
 /* A grid with the judgements that 01 gives its own ends, what judges the points between, and 2b. */
 typedef struct { bracket ends; judge *judge; const void *problem; uint64_t most; } grid;
@@ -50,6 +50,6 @@ typedef struct { double r1, root_r1, root_mu, turn; } transfer;
 
 transfer transfer_of(double mu, double r1, double sine, double cosine);
 void turn_test(failure *f, double turn);
-flight flight_of(const transfer *way, double p, double cot, double alpha_n);
+double flight_time(failure *f, const transfer *way, double p, double cot, double alpha_n);
 
 #endif

@@ -2,16 +2,25 @@
 #ifndef TESTS_H
 #define TESTS_H
 
-#include <stdint.h>
+#include "iterator.h"
 #include "vector.h"
 
-/* The first test that failed: its number in 01 and 02 (0: none), whose amount it was, and what it must be. */
-typedef struct { int number; const char *name, *limit; double amount; } failure;
+#include <stdint.h>
+
+/* The first test that failed: its number in 01 and 02 (0: none), whose amount it was, and what it must be. The amount is a
+ * number; of a continuation's end it is a place on the grid or a count, and a place may have to be judged as it is afresh. */
+typedef struct {
+    int number;
+    enum { AMOUNT, PLACE, JUDGED_PLACE, TALLY } of;
+    const char *name, *limit;
+    union { double amount; int64_t place; uint64_t tally; };
+    judgement afresh;
+} failure;
 
 static inline void must(failure *f, bool holds, int number, const char *name, double amount, const char *limit)
 {
     if (f->number == 0 && !holds)
-        *f = (failure){ number, name, limit, amount };
+        *f = (failure){ .number = number, .name = name, .limit = limit, .amount = amount };
 }
 
 /* The names of a vector's components and of its length. */

@@ -34,6 +34,7 @@ requests() {
     echo "$requests fresh requests, seed $seed"
     "$second" requests "$seed" "$requests" >"$room/requests"
     ask_both
+    python3 tools/why.py "$room/requests" "$room/desk"
 }
 
 # Solves that a limit stops, and what they come to.

@@ -44,7 +44,7 @@ def fresh(second, count, seed):
     """Advances and transfers, with all that stands behind them."""
     made = subprocess.run([*shlex.split(second), "requests", str(seed), str(4 * count + 8000)], stdout=subprocess.PIPE, check=True)
     lines = (" ".join(line.split()) for line in made.stdout.decode("latin-1").split("\n") if line.isprintable())
-    return [line for line in lines if line.startswith(("kepler ", "lambert ")) and len(line) <= LONGEST][-count:]
+    return [line for line in lines if line.removeprefix("why ").startswith(("kepler ", "lambert ")) and len(line) <= LONGEST][-count:]
 
 
 def number(word):

@@ -26,8 +26,10 @@ ANSWERS = {
     "wheel": ["sine", "refused 16"],
     "sight": ["points"] + [f"refused {n}" for n in (1, 3, 16, 17, 18)],
     "cdh": ["closed", "open"] + [f"refused {n}" for n in (14, 22, 25, 5, 1, 2, 3, 4, 10, 6, 19, 7, 8, 9, 26, 27, 28)],
-    "a line that cannot be read": [f"unread {n}" for n in range(25)],
+    "a line that cannot be read": [f"unread {n}" for n in range(26)],
 }
+for routine in ("kepler", "lambert", "theta", "apsides"):
+    ANSWERS["why " + routine] = ["solved"] + [a for a in ANSWERS[routine] if a.startswith("refused")]
 
 
 def kind_of(request, answer):
@@ -35,7 +37,7 @@ def kind_of(request, answer):
     words = answer.split()
     if words[0] == "unread":
         return "a line that cannot be read", answer
-    routine = request.split()[0]
+    routine = " ".join(request.split()[: 2 if request.split()[0] == "why" else 1])
     if words[0] == "refused":
         return routine, " ".join(words[:2])
     return routine, words[words.index("grade") + 1] if words[0] == "done" else words[4] if words[0] == "change" else words[0]

@@ -1,5 +1,5 @@
--- The refusal number of the apsides is the first row's that applies, and 1 where an input is infinite or not a number; a reason that is
--- told is true; no answer holds a NaN.
+-- The refusal number of the apsides is the first row's that applies, and 1 where an input is infinite or not a number; no answer
+-- holds a NaN.
 -- Assumes nothing.
 use Prim.Native.Nat.{ℕ, zero, suc, _+_, _-_, _*_, _≤_, _<_}
 use native.Mathlib.Omega.{arith}
@@ -31,9 +31,7 @@ use Rattle.conic.specs.Conic.{straightRow}
 use Rattle.apsides.specs.declared.Shape.{Shape}
 use Rattle.apsides.specs.declared.Apsides.{Apsides}
 use Rattle.apsides.specs.declared.Apsides.the-variants.{Closed, Open, Refused}
-use Rattle.apsides.specs.declared.Why.{Why}
-use Rattle.apsides.specs.declared.Why.the-variants as Why
-use Rattle.apsides.specs.Apsides.{radicandOf, shapeOf, derivedRow, apsidesTests, distancesOf, answered, apsidesOf, numberOf, whyBy, whyOf, whyNumber, Explains}
+use Rattle.apsides.specs.Apsides.{radicandOf, shapeOf, derivedRow, apsidesTests, distancesOf, answered, apsidesOf, numberOf}
 
 -- ---- 1 + e is finite and 1 or more, for an e under 2^3 that is not below zero
 
@@ -113,7 +111,7 @@ distances-number d = go (f0 <ᶠ d .alpha && f0 <ᶠ f1 ⊖ d .e && d .p ⊘ (f1
     go true = refl
     go false = refl
 
-answered-number : (t : Test) (d : Shape) → numberOf (answered t d) ≡ Tests.numberOf t
+pub answered-number : (t : Test) (d : Shape) → numberOf (answered t d) ≡ Tests.numberOf t
 unfolding answered numberOf Tests.numberOf
 answered-number Passed d = distances-number d
 answered-number (Failed e) d = refl
@@ -133,28 +131,6 @@ module _ (mu : Float) (s : State) where
       answered-number (firstFailing tests) (shapeOf mu s)
       ∙ row-then 1 (finiteInputs mu Position (positionOf s) Velocity (velocityOf s)) behind refl
       ∙ ap (λ (b : Bool). cond b (Tests.numberOf (firstFailing behind)) 1) (inputs-finite mu Position Velocity (positionOf s) (velocityOf s) ∙ h)
-
-  -- ---- why
-
-  why-number : (t : Test) → whyNumber (whyBy t) ≡ Tests.numberOf t
-  unfolding whyNumber whyBy Tests.numberOf
-  why-number Passed = refl
-  why-number (Failed e) = refl
-
-  why-failed : (t : Test) (e : Entry) → whyBy t ≡ Why.Failed e → t ≡ Failed e
-  unfolding whyBy
-  why-failed Passed e h = let n : _≡_ {A = ℕ} 0 1 = cc in absurd (zero-one n)
-    where
-      zero-one : _≡_ {A = ℕ} 0 1 → ⊥
-      zero-one e = omega arith
-  why-failed (Failed d) e h = cc
-
-  pub explained : (r : Why) → r ≡ whyOf mu s → Explains mu s r
-  explained r h = record {
-    settled = h;
-    number = ap whyNumber h ∙ why-number (firstFailing tests) ∙ sym (answered-number (firstFailing tests) (shapeOf mu s));
-    reason = λ e k. reason tests e (why-failed (firstFailing tests) e (sym h ∙ k));
-  }
 
 -- ---- no answer holds a NaN
 

@@ -20,8 +20,6 @@ use Rattle.conic.specs.Conic.{c2Of, pOf, c2Row, pRow, pNOf, straightRow}
 use Rattle.apsides.specs.declared.Shape.{Shape}
 use Rattle.apsides.specs.declared.Apsides.{Apsides}
 use Rattle.apsides.specs.declared.Apsides.the-variants.{Closed, Open, Refused}
-use Rattle.apsides.specs.declared.Why.{Why}
-use Rattle.apsides.specs.declared.Why.the-variants as Why
 
 -- a negative radicand is taken as 0
 unfoldable pub radicandOf : Float → Float
@@ -69,21 +67,3 @@ unfoldable pub numberOf : Apsides → ℕ
 numberOf (Closed near far) = 0
 numberOf (Open near) = 0
 numberOf (Refused n) = n
-
--- why: the first test that fails, or that there is none
-unfoldable pub whyBy : Test → Why
-whyBy Passed = Why.Solved
-whyBy (Failed e) = Why.Failed e
-
-abbrev pub whyOf : Float → State → Why
-whyOf mu s = whyBy (firstFailing (apsidesTests mu s (shapeOf mu s)))
-
-unfoldable pub whyNumber : Why → ℕ
-whyNumber Why.Solved = 0
-whyNumber (Why.Failed e) = e .number
-
--- the number is the answer's own; the test that is told fails, and every test ahead of it is met
-pub record Explains (mu : Float) (s : State) (r : Why) : Type 0 where
-  pub settled : r ≡ whyOf mu s
-  pub number : whyNumber r ≡ numberOf (apsidesOf mu s)
-  pub reason : (e : Entry) → r ≡ Why.Failed e → Reason (apsidesTests mu s (shapeOf mu s)) e

@@ -1,24 +1,17 @@
 // Periapo: the two apsides of a state's orbit.
-use table::Entry;
 use table::Name;
 use table::Part;
 use table::Test;
 use vector::State;
 ghost use mathlib.Core.Path.{_≡_};
 ghost use Rattle.table.specs.Tests.{_▷_, firstFailing};
-ghost use Rattle.apsides.specs.Apsides.{radicandOf, shapeOf, derivedRow, apsidesTests, distancesOf, apsidesOf, Explains};
+ghost use Rattle.apsides.specs.Apsides.{radicandOf, shapeOf, derivedRow, apsidesTests, distancesOf, apsidesOf};
 
 // Closed with near and far, open with near only, or refused with its number.
 pub enum Apsides {
     Closed(f64, f64),
     Open(f64),
     Refused(u32),
-}
-
-// That there is an answer, or the first test that fails.
-pub enum Why {
-    Solved,
-    Failed(Entry),
 }
 
 // The derived numbers.
@@ -99,15 +92,5 @@ pub fn periapo(mu: f64, s: State) -> Apsides
     match tests(mu, s, d) {
         Test::Passed => distances(d),
         Test::Failed(f) => Apsides::Refused(f.number),
-    }
-}
-
-// Why the apsides of s were refused, or that they were not.
-pub fn why_refused(mu: f64, s: State) -> Why
-    ensures { λ r. ⌜ Explains mu s r ⌝ }
-{
-    match tests(mu, s, shape_of(mu, s)) {
-        Test::Passed => Why::Solved,
-        Test::Failed(e) => Why::Failed(e),
     }
 }

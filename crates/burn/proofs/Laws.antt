@@ -31,7 +31,8 @@ use Rattle.kepler.proofs.Laws.{FiniteState, kepler-table}
 use Rattle.solve.specs.declared.Advanced.{Advanced}
 use Rattle.solve.specs.declared.Advanced.the-variants as Ad
 use Rattle.solve.specs.declared.Solution.{Solution}
-use Rattle.solve.specs.Answers.{motionFor, turnsFor, advanceOf, advancedNumber}
+use Rattle.solve.specs.Ends.{motionFor, turnsFor}
+use Rattle.solve.specs.Answers.{advanceOf, advancedNumber}
 use Rattle.solve.proofs.Finite.{advance-finite}
 use Rattle.solve.proofs.Numbers.{timed, afterTrials, arrives, advance-number}
 use Rattle.reach.specs.declared.Reached.{Reached}
@@ -169,8 +170,8 @@ at-other mu s from to n e h = go (elapsedOf from to) e
 told-other : (s : State) (r : Reached) (n : ℕ) → Theta.toldOf s r ≡ Th.Refused n → ⊥
 unfolding Theta.toldOf
 told-other s (R.Time t) n e = let z : _≡_ {A = ℕ} 0 1 = cc in absurd (zero-one z)
-told-other s R.Under n e = let z : _≡_ {A = ℕ} 0 1 = cc in absurd (zero-one z)
-told-other s R.Over n e = let z : _≡_ {A = ℕ} 0 1 = cc in absurd (zero-one z)
+told-other s (R.Under q) n e = let z : _≡_ {A = ℕ} 0 1 = cc in absurd (zero-one z)
+told-other s (R.Over q) n e = let z : _≡_ {A = ℕ} 0 1 = cc in absurd (zero-one z)
 
 theta-other : (mu : Float) (s : State) (sin cos : Float) (n : ℕ) → Theta.thetaOf mu s sin cos ≡ Th.Refused n → n ≡ 28 → ⊥
 unfolding Theta.answered Tests.numberOf

@@ -1,14 +1,18 @@
 -- The formulas that the conic routines share, in the operations of f64 and in their order. Assumes nothing: these are definitions.
+use Prim.Native.Nat.{ℕ}
+use mathlib.Core.Bool.{cond}
 use mathlib.Core.List.{List, [], _∷_}
 use lib.IntN.{ℤ}
 use lib.Ieee.{Float, binary64, ofInt}
-use Rattle.real.specs.F64.{_⊕_, _⊖_, _⊗_, _⊘_, two^, two^-, f1}
+use Rattle.real.specs.F64.{_⊕_, _⊖_, _⊗_, _⊘_, _≤ᶠ_, two^, two^-, f1}
 use Rattle.series.specs.declared.Both.{Both}
 use Rattle.series.specs.declared.Both.the-variants.{Values, Refused}
-use Rattle.series.specs.Series.{bothAnswer}
+use Rattle.series.specs.Series.{leastXi, mostXi, bothAnswer}
 use Rattle.vector.specs.declared.Vector.{Vector}
-use Rattle.table.specs.declared.Name.the-variants.{C2, P}
+use Rattle.table.specs.declared.Name.{Name}
+use Rattle.table.specs.declared.Name.the-variants.{C2, P, Xi}
 use Rattle.table.specs.declared.Part.the-variants.{Whole}
+use Rattle.table.specs.declared.Limit.{Limit}
 use Rattle.table.specs.declared.Limit.the-variants.{AtLeast, AtMost, SizeUnder}
 use Rattle.table.specs.declared.Entry.{Entry}
 use Rattle.vector.specs.Vectors.{dotOf}
@@ -48,9 +52,20 @@ straightRow pN = entry 19 P Whole pN (AtLeast (two^- 20)) ∷ []
 abbrev pub timeOf : Orbit → Float → Float → Float → Float → Float
 timeOf o x z c s = (o .c1 ⊗ (z ⊗ c) ⊕ x ⊗ (o .c2 ⊗ (z ⊗ s) ⊕ o .r1)) ⊘ o .rootmu
 
+-- a range test that stops a trial: 7 where it is over, 8 where it is under
+abbrev pub rangeTest : ℕ → Name → Float → Limit → Entry
+rangeTest number name amount limit = entry number name Whole amount limit
+
+-- −50 ≤ ξ ≤ 40; and the first of the two that a ξ outside fails
+abbrev pub xiTests : Float → List Entry
+xiTests xi = rangeTest 7 Xi xi (AtLeast leastXi) ∷ rangeTest 7 Xi xi (AtMost mostXi) ∷ []
+
+unfoldable pub outsideOf : Float → Entry
+outsideOf xi = cond (leastXi ≤ᶠ xi) (rangeTest 7 Xi xi (AtMost mostXi)) (rangeTest 7 Xi xi (AtLeast leastXi))
+
 -- the trial's numbers from c and s: none where ξ is outside its range
 unfoldable pub trialOf : Orbit → Float → Float → Both → Trial
-trialOf o x xi (Refused n) = Out
+trialOf o x xi (Refused n) = Out (outsideOf xi)
 trialOf o x xi (Values p) = At (record { x = x; z = x ⊗ x; xi = xi; c = p .c; s = p .s; t = timeOf o x (x ⊗ x) (p .c) (p .s) })
 
 unfoldable pub pointAt : Orbit → Float → Float → Trial

@@ -1,12 +1,14 @@
 // What the conic routines share: the grid, two derived numbers with their rows, and the time of a trial.
 use series::Both;
+use table::Entry;
+use table::Limit;
 use table::Name;
 use table::Part;
 use table::Test;
 use vector::Vector;
 ghost use mathlib.Core.Path.{_≡_};
 ghost use Rattle.table.specs.Tests.{_▷_};
-ghost use Rattle.conic.specs.Conic.{gridOf, c2Of, pOf, pNOf, c2Row, pRow, straightRow, timeOf, pointAt};
+ghost use Rattle.conic.specs.Conic.{gridOf, c2Of, pOf, pNOf, c2Row, pRow, straightRow, timeOf, rangeTest, outsideOf, pointAt};
 
 // What the trials of one solve share.
 pub struct Orbit {
@@ -26,10 +28,10 @@ pub struct Point {
     pub t: f64,
 }
 
-// A trial's numbers, or that ξ is outside its range.
+// A trial's numbers, or the range test of ξ that fails.
 pub enum Trial {
     At(Point),
-    Out,
+    Out(Entry),
 }
 
 // n·2^-20: the grid of Kepler's x and of Lambert's cot.
@@ -88,13 +90,36 @@ fn time(o: Orbit, x: f64, z: f64, c: f64, s: f64) -> f64
     (o.c1 * (z * c) + x * (o.c2 * (z * s) + o.r1)) / o.rootmu
 }
 
+// A range test that stops a trial: 7 where it is over, 8 where it is under.
+pub fn range_test(number: u32, name: Name, amount: f64, limit: Limit) -> Entry
+    ensures { λ r. ⌜ r ≡ rangeTest number name amount limit ⌝ }
+{
+    Entry {
+        number,
+        name,
+        part: Part::Whole,
+        amount,
+        limit,
+    }
+}
+
+// The one that a ξ outside −50..40 fails.
+fn outside(xi: f64) -> Entry
+    ensures { λ r. ⌜ r ≡ outsideOf xi ⌝ }
+{
+    if -50.0 <= xi {
+        return range_test(7, Name::Xi, xi, Limit::AtMost(40.0));
+    }
+    range_test(7, Name::Xi, xi, Limit::AtLeast(-50.0))
+}
+
 // The numbers of the trial at x, whose ξ is given.
 pub fn point_at(o: Orbit, x: f64, xi: f64) -> Trial
     ensures { λ r. ⌜ r ≡ pointAt o x xi ⌝ }
 {
     let z = x * x;
     let Both::Values(p) = series::c_and_s(xi) else {
-        return Trial::Out;
+        return Trial::Out(outside(xi));
     };
     let t = time(o, x, z, p.c, p.s);
     Trial::At(Point {

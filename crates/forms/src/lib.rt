@@ -69,8 +69,8 @@ pub enum Look {
     },
 }
 
-// What a line asks. A line with no word and a comment ask nothing; a line that cannot be read tells its first such
-// word, or 0 for a line of over 1,000 bytes.
+// What a line asks; `Why` asks for the reason of a solve's answer. A line with no word and a comment ask nothing; a line
+// that cannot be read tells its first such word, or 0 for a line of over 1,000 bytes.
 pub enum Request {
     Nothing,
     Root(f64),
@@ -86,6 +86,7 @@ pub enum Request {
     },
     Look(Look),
     Solve(Solve),
+    Why(Solve),
     Burn {
         body: u64,
         radius: f64,

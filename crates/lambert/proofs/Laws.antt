@@ -30,8 +30,8 @@ use Rattle.lambert.specs.Lambert.{turnOf, sharedOf, transferOf, normalIn
 judged-told : (asked : Float) (r : Reached) → Told asked (judgedReach asked r)
 unfolding judgedReach
 judged-told asked (R.Time t) = timed t
-judged-told asked R.Under = under
-judged-told asked R.Over = over
+judged-told asked (R.Under e) = under
+judged-told asked (R.Over e) = over
 
 pub lambert-told : (d : Transfer) (asked : Float) (n : ℤ) → Told asked (lambertJudge d asked n)
 lambert-told d asked n = judged-told asked (reachAt d (gridOf n))

@@ -7,15 +7,19 @@ use Rattle.real.specs.F64.{_⊕_, _⊖_, _⊗_, _⊘_, _≤ᶠ_, _<ᶠ_, two^, 
 use Rattle.root.specs.Root.{rootOf}
 use Rattle.vector.specs.declared.Vector.{Vector}
 use Rattle.table.specs.declared.Name.the-variants as N
-use Rattle.table.specs.declared.Name.the-variants.{First, Second, Velocity, Time, Cross, Versine, Ratio}
+use Rattle.table.specs.declared.Name.{Name}
+use Rattle.table.specs.declared.Name.the-variants.{First, Second, Velocity, Time, Cross, Versine, Ratio, P, Den}
 use Rattle.table.specs.declared.Part.the-variants.{Length, Whole}
+use Rattle.table.specs.declared.Limit.{Limit}
 use Rattle.table.specs.declared.Limit.the-variants as L
 use Rattle.table.specs.declared.Limit.the-variants.{AtLeast, OneWithin}
 use Rattle.table.specs.declared.Entry.{Entry}
+use Rattle.table.specs.declared.Test.{Test}
+use Rattle.table.specs.declared.Test.the-variants.{Passed, Failed}
 use Rattle.vector.specs.Vectors.{dotOf, crossOf, lengthOf, scaledOf, sumOf, dividedOf, negatedOf}
 use Rattle.table.specs.Tests.{entry}
 use Rattle.rows.specs.Rows.{finiteNumber, finiteVector, finiteInputs, muRow, positionRow, velocityComponents, transferTimeRow}
-use Rattle.conic.specs.Conic.{gridOf}
+use Rattle.conic.specs.Conic.{gridOf, rangeTest}
 use Rattle.iterator.specs.declared.Judgement.{Judgement}
 use Rattle.iterator.specs.declared.Judgement.the-variants as J
 use Rattle.iterator.specs.Judged.{judgedOf}
@@ -128,24 +132,34 @@ arcOf d p cot = record {
 }
 
 -- under if sinθ > 0, else over; a sinθ of 0 counts as positive
-unfoldable pub sideOf : Float → Reached
-sideOf sin = cond (f0 ≤ᶠ sin) R.Under R.Over
+unfoldable pub sideOf : Float → Name → Float → Limit → Reached
+sideOf sin name amount limit = cond (f0 ≤ᶠ sin) (R.Under (rangeTest 8 name amount limit)) (R.Over (rangeTest 7 name amount limit))
 
 -- Unless den > 0, or if p > 16: the side above. Then 4 to 7.
 unfoldable pub reachAt : Transfer → Float → Reached
 reachAt d cot =
     let p = pOf d cot in
-    cond (not (f0 <ᶠ denOf d cot)) (sideOf (d .sin)) (cond (not (p ≤ᶠ two^ 4)) (sideOf (d .sin)) (reachOf (arcOf d p cot)))
+    cond (not (f0 <ᶠ denOf d cot)) (sideOf (d .sin) Den (denOf d cot) (L.Over f0))
+    (cond (not (p ≤ᶠ two^ 4)) (sideOf (d .sin) P p (L.AtMost (two^ 4))) (reachOf (arcOf d p cot)))
 
 -- a time is judged against the time asked for
 unfoldable pub judgedReach : Float → Reached → Judgement
 judgedReach asked (R.Time t) = judgedOf asked t
-judgedReach asked R.Under = J.Under
-judgedReach asked R.Over = J.Over
+judgedReach asked (R.Under e) = J.Under
+judgedReach asked (R.Over e) = J.Over
 
 -- cot γ = n·2^-20
 abbrev pub lambertJudge : Transfer → Float → ℤ → Judgement
 lambertJudge d asked n = judgedReach asked (reachAt d (gridOf n))
+
+-- the range test that stopped it; passed where it has a time
+unfoldable pub stoppedBy : Reached → Test
+stoppedBy (R.Time t) = Passed
+stoppedBy (R.Under e) = Failed e
+stoppedBy (R.Over e) = Failed e
+
+abbrev pub lambertStop : Transfer → ℤ → Test
+lambertStop d n = stoppedBy (reachAt d (gridOf n))
 
 -- √((mu·p)/r1)·(cot·u1 + normal×u1)
 abbrev pub velocityAt : Transfer → Float → Vector

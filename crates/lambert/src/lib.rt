@@ -3,6 +3,7 @@
 use iterator::Judgement;
 use reach::Arc;
 use reach::Reached;
+use table::Limit;
 use table::Name;
 use table::Part;
 use table::Test;
@@ -10,7 +11,7 @@ use vector::Vector;
 ghost use mathlib.Core.Path.{_≡_};
 ghost use Rattle.table.specs.declared.Test.the-variants.{Passed};
 ghost use Rattle.table.specs.Tests.{_▷_, firstFailing};
-ghost use Rattle.lambert.specs.Lambert.{turnOf, sharedOf, transferOf, positionRows, normalInput, inputRow, normalRow, angleRow, derivedRow, rangeRows, denOf, pOf, arcOf, sideOf, reachAt, lambertJudge, velocityOf, resultRow};
+ghost use Rattle.lambert.specs.Lambert.{turnOf, sharedOf, transferOf, positionRows, normalInput, inputRow, normalRow, angleRow, derivedRow, rangeRows, denOf, pOf, arcOf, sideOf, reachAt, lambertJudge, lambertStop, velocityOf, resultRow};
 
 // The short way round from the first position to the second, the long way, or the way round a normal that is given.
 pub enum Way {
@@ -212,25 +213,26 @@ fn arc_at(d: Transfer, p: f64, cot: f64) -> Arc
 
 // Where a step gives no p: under if sinθ > 0, else over. A sinθ of 0, which only a normal that is given can make,
 // counts as positive.
-fn side(sin: f64) -> Reached
-    ensures { λ r. ⌜ r ≡ sideOf sin ⌝ }
+fn side(sin: f64, name: Name, amount: f64, limit: Limit) -> Reached
+    ensures { λ r. ⌜ r ≡ sideOf sin name amount limit ⌝ }
 {
     if 0.0 <= sin {
-        return Reached::Under;
+        return Reached::Under(conic::range_test(8, name, amount, limit));
     }
-    Reached::Over
+    Reached::Over(conic::range_test(7, name, amount, limit))
 }
 
 // Steps 1 to 7.
 fn reach_at(d: Transfer, cot: f64) -> Reached
     ensures { λ r. ⌜ r ≡ reachAt d cot ⌝ }
 {
-    if !(0.0 < den_at(d, cot)) {
-        return side(d.sin);
+    let den = den_at(d, cot);
+    if !(0.0 < den) {
+        return side(d.sin, Name::Den, den, Limit::Over(0.0));
     }
     let p = p_at(d, cot);
     if !(p <= 16.0) {
-        return side(d.sin);
+        return side(d.sin, Name::P, p, Limit::AtMost(16.0));
     }
     reach::reach_of(arc_at(d, p, cot))
 }
@@ -241,8 +243,19 @@ pub fn judge(d: Transfer, asked: f64, n: i64) -> Judgement
 {
     match reach_at(d, conic::grid(n)) {
         Reached::Time(t) => iterator::judged(asked, t),
-        Reached::Under => Judgement::Under,
-        Reached::Over => Judgement::Over,
+        Reached::Under(_) => Judgement::Under,
+        Reached::Over(_) => Judgement::Over,
+    }
+}
+
+// Why a grid point is under or over: the range test that fails; passed where it has a time.
+pub fn stop_at(d: Transfer, n: i64) -> Test
+    ensures { λ r. ⌜ r ≡ lambertStop d n ⌝ }
+{
+    match reach_at(d, conic::grid(n)) {
+        Reached::Time(_) => Test::Passed,
+        Reached::Under(e) => Test::Failed(e),
+        Reached::Over(e) => Test::Failed(e),
     }
 }
 

@@ -3,13 +3,24 @@ use iterator::Bracket;
 use iterator::Judgement;
 use kepler::Motion;
 use lambert::Transfer;
+use reason::Amiss;
+use reason::Stop;
+use table::Test;
 ghost use mathlib.Core.Path.{_≡_};
 ghost use Rattle.problem.specs.Problems.{judgeOf, startOf, heldOf, mostOf};
-ghost use Rattle.problem.specs.Held.{onGrid, placedOf, statedOf, standsOf, goesOn};
+ghost use Rattle.problem.specs.declared.Checked.the-variants.{Fine};
+ghost use Rattle.problem.specs.Held.{onGrid, endTest, testedBy, _▸_, placeTests, stateTests, standTests, checkedOf};
+ghost use Rattle.problem.specs.Stops.{rangeAt, stopOf};
 
 pub enum Problem {
     Kepler(Motion),
     Lambert(Transfer),
+}
+
+// Trials can go on from a bracket, or what is amiss with it.
+pub enum Checked {
+    Fine,
+    Wrong(Amiss),
 }
 
 // The judgement of a grid point inside the grid.
@@ -68,6 +79,16 @@ pub fn held(problem: Problem, asked: f64, n: i64) -> Judgement
     s.below
 }
 
+// The range test that stops the trial of a grid point inside the grid.
+fn range_test(problem: Problem, n: i64) -> Test
+    ensures { λ r. ⌜ r ≡ rangeAt problem n ⌝ }
+{
+    match problem {
+        Problem::Kepler(m) => kepler::stop_at(m, n),
+        Problem::Lambert(d) => lambert::stop_at(d, n),
+    }
+}
+
 fn on_grid(problem: Problem, n: i64) -> bool
     ensures { λ r. ⌜ r ≡ onGrid problem n ⌝ }
 {
@@ -75,53 +96,74 @@ fn on_grid(problem: Problem, n: i64) -> bool
     if s.lo <= n { n <= s.hi } else { false }
 }
 
-fn placed(problem: Problem, lo: i64, hi: i64) -> bool
-    ensures { λ r. ⌜ r ≡ placedOf problem lo hi ⌝ }
+// One test more; the first that fails is kept.
+fn test(c: Checked, met: bool, a: Amiss) -> Checked
+    ensures { λ r. ⌜ r ≡ testedBy c (endTest met a) ⌝ }
 {
-    if !on_grid(problem, lo) {
-        return false;
+    match c {
+        Checked::Wrong(_) => c,
+        Checked::Fine => {
+            if met {
+                return Checked::Fine;
+            }
+            Checked::Wrong(a)
+        }
     }
-    if !on_grid(problem, hi) {
-        return false;
-    }
-    lo < hi
 }
 
-fn stated(problem: Problem, asked: f64, b: Bracket) -> bool
-    ensures { λ r. ⌜ r ≡ statedOf problem asked b ⌝ }
+// Its ends on the grid and in order.
+fn placed(problem: Problem, lo: i64, hi: i64) -> Checked
+    ensures { λ r. ⌜ r ≡ Fine ▸ placeTests problem lo hi ⌝ }
+{
+    let a = test(Checked::Fine, on_grid(problem, lo), Amiss::LoOffGrid(lo));
+    let b = test(a, on_grid(problem, hi), Amiss::HiOffGrid(hi));
+    test(b, lo < hi, Amiss::LoNotUnderHi(lo))
+}
+
+// Judged as stated.
+fn stated(c: Checked, problem: Problem, asked: f64, b: Bracket) -> Checked
+    ensures { λ r. ⌜ r ≡ c ▸ stateTests problem asked b ⌝ }
 {
     let below = b.below;
     let above = b.above;
-    if !iterator::same(held(problem, asked, b.lo), below) {
-        return false;
-    }
-    iterator::same(held(problem, asked, b.hi), above)
+    let lower = held(problem, asked, b.lo);
+    let upper = held(problem, asked, b.hi);
+    let d = test(c, iterator::same(lower, below), Amiss::LoMisjudged(b.lo, lower));
+    test(d, iterator::same(upper, above), Amiss::HiMisjudged(b.hi, upper))
 }
 
-fn stands(b: Bracket) -> bool
-    ensures { λ r. ⌜ r ≡ standsOf b ⌝ }
+// Low or under, and high or over.
+fn stands(c: Checked, b: Bracket) -> Checked
+    ensures { λ r. ⌜ r ≡ c ▸ standTests b ⌝ }
 {
     let below = b.below;
     let above = b.above;
-    if !iterator::is_below(below) {
-        return false;
-    }
-    !iterator::is_below(above)
+    let d = test(c, iterator::is_below(below), Amiss::LoNotBelow(b.lo));
+    test(d, !iterator::is_below(above), Amiss::HiNotAbove(b.hi))
 }
 
-// Trials can go on from this bracket: its ends on the grid and in order, judged as stated, low or under and high or
-// over, and a count of at most 2b.
-pub fn goes_on(problem: Problem, asked: f64, b: Bracket) -> bool
-    ensures { λ r. ⌜ r ≡ goesOn problem asked b ⌝ }
+// Whether trials can go on from a bracket: all of these, in this order, and a count of at most 2b.
+pub fn check_ends(problem: Problem, asked: f64, b: Bracket) -> Checked
+    ensures { λ r. ⌜ r ≡ checkedOf problem asked b ⌝ }
 {
-    if !placed(problem, b.lo, b.hi) {
-        return false;
+    let most = most(problem);
+    let c = stands(stated(placed(problem, b.lo, b.hi), problem, asked, b), b);
+    test(c, b.count <= most, Amiss::CountOver(b.count, most))
+}
+
+// Why a grid point has no time: it is the grid's own end, or a range test of its trial fails. A point that has one
+// counts as an end: it is not asked about.
+pub fn stop_at(problem: Problem, n: i64) -> Stop
+    ensures { λ r. ⌜ r ≡ stopOf problem n ⌝ }
+{
+    let s = start(problem);
+    if s.lo < n {
+        if n < s.hi {
+            return match range_test(problem, n) {
+                Test::Failed(e) => Stop::Test(e),
+                Test::Passed => Stop::EndOfGrid,
+            };
+        }
     }
-    if !stated(problem, asked, b) {
-        return false;
-    }
-    if !stands(b) {
-        return false;
-    }
-    b.count <= most(problem)
+    Stop::EndOfGrid
 }

@@ -20,6 +20,8 @@ use Rattle.forms.specs.declared.Solve.the-variants.{Kepler, Lambert, Theta, Aps
 use Rattle.columns.proofs.RowLaws.{unread-fits}
 use Rattle.answers.proofs.Lengths.{answer-fits, tried-fits, timed-fits, apsides-fits}
 use Rattle.solutions.proofs.Lengths.{advanced-fits, transferred-fits}
+use Rattle.inquiry.specs.Inquiry.{inquiryOf}
+use Rattle.reasons.proofs.Lengths.{reason-fits}
 use Rattle.wheel.specs.Wheel.{wheelOf}
 use Rattle.sight.specs.Sight.{sightOf}
 use Rattle.views.proofs.Lengths.{wheel-fits, sight-fits}
@@ -50,6 +52,7 @@ reply-fits used (Q.Look x) = looked-fits x
 reply-fits used (Q.Solve x) = solved-fits used x
 reply-fits used (Burn body radius mu active ta passive tp t2 t3) = burn-fits (burnOf (record { body = body; radius = radius; mu = mu }) active ta passive tp t2 t3)
 reply-fits used (Unread w) = unread-fits w
+reply-fits used (Q.Why x) = reason-fits (inquiryOf used x)
 
 pub laid-as : {d : List ℕ} {at : ℕ} {xs ys : List (List ℕ)} {e : List ℕ} {r : ℕ} → xs ≡ ys → Laid d at xs e r → Laid d at ys e r
 laid-as {d} {at} {xs} {ys} {e} {r} p l = subst (λ (zs : List (List ℕ)). Laid d at zs e r) p l

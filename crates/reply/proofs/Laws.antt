@@ -12,6 +12,8 @@ use Rattle.forms.specs.declared.Version.{Version}
 use Rattle.forms.specs.declared.Version.the-variants.{Standard, Named}
 use Rattle.forms.specs.declared.Solve.{Solve}
 use Rattle.forms.specs.declared.Solve.the-variants.{Kepler, Lambert, Theta, Apsides}
+use Rattle.inquiry.specs.Inquiry.{settledBy, inquiryOf}
+use Rattle.reasons.specs.Lines.{reasonPieces}
 use Rattle.reply.specs.Replies.{advancedBy, transferredBy, solvedOf, replyOf}
 
 -- the same solve by this version; two solves have no grade
@@ -31,6 +33,18 @@ standard-version used k h (Theta mu state sine cosine) = refl
 standard-version used k h (Apsides mu state) = refl
 
 -- where no version is named, the settings are not looked at
+abbrev pub Unversioned : Request → Type 0
+Unversioned Nothing = Prim.Unit
+Unversioned (Root x) = Prim.Unit
+Unversioned (C xi) = Prim.Unit
+Unversioned (S xi) = Prim.Unit
+Unversioned (Trial asked lo hi below above k) = Prim.Unit
+Unversioned (Q.Look x) = Prim.Unit
+Unversioned (Q.Solve x) = x ≡ by Standard x
+Unversioned (Burn body radius mu active ta passive tp t2 t3) = Prim.Unit
+Unversioned (Unread w) = Prim.Unit
+Unversioned (Q.Why x) = x ≡ by Standard x
+
 module _ (used other : List ℕ) where
   solved-alike : (x : Solve) → solvedOf used (by Standard x) ≡ solvedOf other (by Standard x)
   unfolding by solvedOf advancedBy transferredBy
@@ -39,13 +53,21 @@ module _ (used other : List ℕ) where
   solved-alike (Theta mu state sine cosine) = refl
   solved-alike (Apsides mu state) = refl
 
-  pub not-looked-at : (q : Request) → ((x : Solve) → q ≡ Q.Solve x → x ≡ by Standard x) → replyOf used q ≡ replyOf other q
+  asked-alike : (x : Solve) → inquiryOf used (by Standard x) ≡ inquiryOf other (by Standard x)
+  unfolding by inquiryOf settledBy
+  asked-alike (Kepler mu state time beginning limit version) = refl
+  asked-alike (Lambert mu first second time way beginning limit version) = refl
+  asked-alike (Theta mu state sine cosine) = refl
+  asked-alike (Apsides mu state) = refl
+
+  pub not-looked-at : (q : Request) → Unversioned q → replyOf used q ≡ replyOf other q
   not-looked-at Nothing h = refl
   not-looked-at (Root x) h = refl
   not-looked-at (C xi) h = refl
   not-looked-at (S xi) h = refl
   not-looked-at (Trial asked lo hi below above k) h = refl
   not-looked-at (Q.Look x) h = refl
-  not-looked-at (Q.Solve x) h = ap (solvedOf used) (h x refl) ∙ solved-alike x ∙ ap (solvedOf other) (sym (h x refl))
+  not-looked-at (Q.Solve x) h = ap (solvedOf used) h ∙ solved-alike x ∙ ap (solvedOf other) (sym h)
   not-looked-at (Burn body radius mu active ta passive tp t2 t3) h = refl
   not-looked-at (Unread w) h = refl
+  not-looked-at (Q.Why x) h = ap reasonPieces (ap (inquiryOf used) h ∙ asked-alike x ∙ ap (inquiryOf other) (sym h))

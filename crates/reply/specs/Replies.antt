@@ -29,6 +29,8 @@ use Rattle.forms.specs.declared.Solve.the-variants.{Kepler, Lambert, Theta, Aps
 use Rattle.requests.specs.Requests.{requestOf}
 use Rattle.answers.specs.Answers.{answerPieces, triedPieces, timedPieces, apsidesPieces}
 use Rattle.solutions.specs.Solutions.{advancedPieces, transferredPieces}
+use Rattle.inquiry.specs.Inquiry.{inquiryOf}
+use Rattle.reasons.specs.Lines.{reasonPieces}
 use Rattle.wheel.specs.Wheel.{wheelOf}
 use Rattle.sight.specs.Sight.{sightOf}
 use Rattle.views.specs.Views.{wheelPieces, sightPieces}
@@ -72,6 +74,7 @@ replyOf used (Q.Solve x) = solvedOf used x
 replyOf used (Burn body radius mu active ta passive tp t2 t3) =
     burnPieces (burnOf (record { body = body; radius = radius; mu = mu }) active ta passive tp t2 t3)
 replyOf used (Unread w) = unreadPieces w
+replyOf used (Q.Why x) = reasonPieces (inquiryOf used x)
 
 abbrev pub replyText : List ℕ → List ℕ → List ℕ
 replyText used line = concat (replyOf used (requestOf line))

@@ -147,6 +147,7 @@ fn answered(buf: &mut [u8], used: &[u8], request: Request) -> usize
             burn::constant_height(Centre { body, radius, mu }, active, ta, passive, tp, t2, t3),
         ),
         Request::Unread(w) => columns::unread(buf, w),
+        Request::Why(x) => reasons::tell(buf, inquiry::reason_of(used, x)),
     }
 }
 

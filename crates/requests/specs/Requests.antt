@@ -47,7 +47,8 @@ routines =
     (word (ascii "trial") trialForm
     (word (ascii "wheel") wheelForm
     (word (ascii "sight") sightForm
-    (word (ascii "cdh") cdhForm (solveForm Q.Solve)))))))
+    (word (ascii "cdh") cdhForm
+    (word (ascii "why") (solveForm Q.Why) (solveForm Q.Solve))))))))
 
 -- ---- a line
 

@@ -112,6 +112,16 @@ fn solve(line: &[u8]) -> Request
     }
 }
 
+// The reason of a solve's answer: the solve stands behind the word.
+fn why(line: &[u8]) -> Request
+    ensures { λ r. ⌜ r ≡ readBy (solveForm Request.Why) 1 (now (line .entry)) ⌝ }
+{
+    match solves::read(line, 1) {
+        Given::Read(x) => Request::Why(x),
+        Given::Unread(w) => Request::Unread(w),
+    }
+}
+
 fn routine(name: &[u8], line: &[u8]) -> Request
     requires { ⌜ now name ≡ wordAt 0 (now line) ⌝ }
     ensures { λ r. ⌜ r ≡ readBy routines 0 (now (line .entry)) ⌝ }
@@ -136,6 +146,9 @@ fn routine(name: &[u8], line: &[u8]) -> Request
     }
     if words::is_word(name, b"cdh") {
         return courses::cdh(line);
+    }
+    if words::is_word(name, b"why") {
+        return why(line);
     }
     solve(line)
 }

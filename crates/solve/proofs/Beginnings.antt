@@ -6,7 +6,7 @@ use native.Mathlib.Nat as Nat
 use mathlib.Core.Path.{_≡_, refl, sym, ap, _∙_, subst}
 use mathlib.Core.Bool.{Bool, true, false, cond}
 use borrow.Author.Tests.{leb-true, le-leb}
-use lib.Dec.{T, lit≤}
+use lib.Dec.{T, leb, lit≤}
 use lib.IntN.{ℤ}
 use lib.Signed.{ltZ, leZ, mag, _<ℤ_, _≤ℤ_, ltZ-yes, leZ-yes}
 use lib.Ieee.{Float}
@@ -27,8 +27,11 @@ use Rattle.iterator.proofs.Ends.{to-judged, to-stand, lower-from, upper-to}
 use Rattle.iterator.proofs.Sames.{same-is, same-self}
 use Rattle.iterator.proofs.Single.{Sound, Agreeing, told-agrees, time-finite, sound-is, sound-grid}
 use Rattle.problem.specs.Problems.{judgeOf, startOf, heldOf, stoppedOf, mostOf}
-use Rattle.problem.specs.Held.{onGrid, placedOf, statedOf, standsOf, goesOn}
-use Rattle.solve.specs.Begun.{timeInput, timesInput, begunOf}
+use Rattle.problem.specs.Held.{onGrid, endTests, checkedOf}
+use Rattle.problem.specs.declared.Checked.{Checked}
+use Rattle.problem.specs.declared.Checked.the-variants.{Fine, Wrong}
+use Rattle.problem.proofs.Checks.{fine-met, met-fine}
+use Rattle.solve.specs.Begun.{timeInput, timesInput, begunBy, begunOf}
 use Rattle.problem.specs.declared.Problem.{Problem}
 use Rattle.problem.specs.declared.Problem.the-variants.{Kepler, Lambert}
 use Rattle.iterator.specs.declared.Beginning.{Beginning}
@@ -37,7 +40,7 @@ use Rattle.solve.specs.declared.Begun.the-variants as B
 use Rattle.problem.proofs.Told.{told}
 use Rattle.problem.proofs.Starts.{start-sound, start-few}
 use Rattle.solve.proofs.Asked.{Asked}
-use Rattle.solve.proofs.Ended.{held-lower, held-upper, last-ends}
+use Rattle.solve.proofs.Last.{held-lower, held-upper, last-ends}
 
 zero-one : _≡_ {A = ℕ} 0 1 → ⊥
 zero-one z = omega arith
@@ -74,41 +77,44 @@ pub record Goes (problem : Problem) (asked : Float) (b : Bracket) : Type 0 where
   pub above : isAbove (b .above) ≡ true
   pub count : b .count ≤ mostOf problem
 
-pub goes : (problem : Problem) (asked : Float) (b : Bracket) → goesOn problem asked b ≡ true → Goes problem asked b
-unfolding goesOn placedOf onGrid statedOf standsOf
+pub goes : (problem : Problem) (asked : Float) (b : Bracket) → checkedOf problem asked b ≡ Fine → Goes problem asked b
+unfolding onGrid
 goes problem asked b e =
-    let p = and-0 (placedOf problem (b .lo) (b .hi)) _ e in
-    let f = and-1 (placedOf problem (b .lo) (b .hi)) _ e in
-    let q = and-0 (statedOf problem asked b) _ f in
-    let g = and-1 (statedOf problem asked b) _ f in
-    let r = and-0 (standsOf b) _ g in
-    let p1 = and-1 (onGrid problem (b .lo)) _ p in
+    let h = fine-met Fine (endTests problem asked b) e .1 in
+    let h1 = and-1 (onGrid problem (b .lo)) _ h in
+    let h2 = and-1 (onGrid problem (b .hi)) _ h1 in
+    let h3 = and-1 (ltZ (b .lo) (b .hi)) _ h2 in
+    let h4 = and-1 (sameAs (heldOf problem asked (b .lo)) (b .below)) _ h3 in
+    let h5 = and-1 (sameAs (heldOf problem asked (b .hi)) (b .above)) _ h4 in
+    let h6 = and-1 (isBelow (b .below)) _ h5 in
     record {
-      from = leZ-yes (of-true (and-0 (leZ (startOf problem .lo) (b .lo)) _ (and-0 (onGrid problem (b .lo)) _ p)));
-      order = ltZ-yes (of-true (and-1 (onGrid problem (b .hi)) _ p1));
-      to = leZ-yes (of-true (and-1 (leZ (startOf problem .lo) (b .hi)) _ (and-0 (onGrid problem (b .hi)) _ p1)));
-      lower = sym (same-is _ _ (and-0 (sameAs (heldOf problem asked (b .lo)) (b .below)) _ q));
-      upper = sym (same-is _ _ (and-1 (sameAs (heldOf problem asked (b .lo)) (b .below)) _ q));
-      below = and-0 (isBelow (b .below)) _ r;
-      above = and-1 (isBelow (b .below)) _ r;
-      count = leb-true (b .count) (mostOf problem) (and-1 (standsOf b) _ g);
+      from = leZ-yes (of-true (and-0 (leZ (startOf problem .lo) (b .lo)) _ (and-0 (onGrid problem (b .lo)) _ h)));
+      order = ltZ-yes (of-true (and-0 (ltZ (b .lo) (b .hi)) _ h2));
+      to = leZ-yes (of-true (and-1 (leZ (startOf problem .lo) (b .hi)) _ (and-0 (onGrid problem (b .hi)) _ h1)));
+      lower = sym (same-is _ _ (and-0 (sameAs (heldOf problem asked (b .lo)) (b .below)) _ h3));
+      upper = sym (same-is _ _ (and-0 (sameAs (heldOf problem asked (b .hi)) (b .above)) _ h4));
+      below = and-0 (isBelow (b .below)) _ h5;
+      above = and-0 (isAbove (b .above)) _ h6;
+      count = leb-true (b .count) (mostOf problem) (and-0 (leb (b .count) (mostOf problem)) true (and-1 (isAbove (b .above)) _ h6));
     }
 
 -- and the other way
-pub goes-back : (problem : Problem) (asked : Float) (b : Bracket) → Goes problem asked b → goesOn problem asked b ≡ true
-unfolding goesOn placedOf onGrid statedOf standsOf
+pub goes-back : (problem : Problem) (asked : Float) (b : Bracket) → Goes problem asked b → checkedOf problem asked b ≡ Fine
+unfolding onGrid
 goes-back problem asked b h =
-    both (placedOf problem (b .lo) (b .hi)) _
+    met-fine (endTests problem asked b)
     (both (onGrid problem (b .lo)) _
     (both (leZ (startOf problem .lo) (b .lo)) _ (is-true _ (h .from .le)) (is-true _ (le-trans (lt-le (h .order)) (h .to) .le)))
     (both (onGrid problem (b .hi)) _
     (both (leZ (startOf problem .lo) (b .hi)) _ (is-true _ (le-trans (h .from) (lt-le (h .order)) .le)) (is-true _ (h .to .le)))
-    (is-true _ (h .order .lt))))
-    (both (statedOf problem asked b) _
+    (both (ltZ (b .lo) (b .hi)) _ (is-true _ (h .order .lt))
     (both (sameAs (heldOf problem asked (b .lo)) (b .below)) _
     (ap (sameAs (heldOf problem asked (b .lo))) (h .lower) ∙ same-self (heldOf problem asked (b .lo)))
-    (ap (sameAs (heldOf problem asked (b .hi))) (h .upper) ∙ same-self (heldOf problem asked (b .hi))))
-    (both (standsOf b) _ (both (isBelow (b .below)) _ (h .below) (h .above)) (le-leb (b .count) (mostOf problem) (h .count))))
+    (both (sameAs (heldOf problem asked (b .hi)) (b .above)) _
+    (ap (sameAs (heldOf problem asked (b .hi))) (h .upper) ∙ same-self (heldOf problem asked (b .hi)))
+    (both (isBelow (b .below)) _ (h .below)
+    (both (isAbove (b .above)) _ (h .above)
+    (both (leb (b .count) (mostOf problem)) true (le-leb (b .count) (mostOf problem) (h .count)) refl))))))))
 
 module _ (problem : Problem) (asked : Float) (a : Asked asked) where
   -- such a bracket is sound, and its count has room
@@ -143,21 +149,21 @@ module _ (problem : Problem) (asked : Float) (a : Asked asked) where
   -- so trials can go on from where they begin
   pub begun-goes : (g : Beginning) (s : Bracket) → begunOf problem asked g ≡ B.At s
       → (soundOf asked (s .lo) (s .hi) (s .below) (s .above) ≡ true) × (s .count + widthOf (s .lo) (s .hi) < 2 ^ 64)
-  unfolding begunOf
+  unfolding begunOf begunBy
   begun-goes Start s e =
       let i : startOf problem ≡ s = cc in
       subst (λ (s : Bracket). (soundOf asked (s .lo) (s .hi) (s .below) (s .above) ≡ true) × (s .count + widthOf (s .lo) (s .hi) < 2 ^ 64)) i
       (sound-is (start-sound problem asked (a .within) (a .at-least)), start-few problem)
-  begun-goes (Stopped b) s e = go (goesOn problem asked b) refl e
+  begun-goes (Stopped b) s e = go (checkedOf problem asked b) refl e
     where
-      go : (t : Bool) → goesOn problem asked b ≡ t → cond t (B.At b) B.Wrong ≡ B.At s
+      go : (c : Checked) → checkedOf problem asked b ≡ c → begunBy c b ≡ B.At s
           → (soundOf asked (s .lo) (s .hi) (s .below) (s .above) ≡ true) × (s .count + widthOf (s .lo) (s .hi) < 2 ^ 64)
-      go true t e =
+      go Fine t e =
           let i : b ≡ s = cc in
           let h = goes problem asked b t in
           subst (λ (s : Bracket). (soundOf asked (s .lo) (s .hi) (s .below) (s .above) ≡ true) × (s .count + widthOf (s .lo) (s .hi) < 2 ^ 64)) i
           (sound-is (goes-sound h), goes-few h)
-      go false t e = let z : _≡_ {A = ℕ} 0 1 = cc in absurd (zero-one z)
+      go (Wrong w) t e = let z : _≡_ {A = ℕ} 0 1 = cc in absurd (zero-one z)
 
   -- ---- what a run from the start hands out, where a limit stops it, passes row 6
   pub stopped-goes : (l : ℕ) → Goes problem asked (stoppedOf problem asked l (startOf problem))
@@ -177,10 +183,10 @@ module _ (problem : Problem) (asked : Float) (a : Asked asked) where
       }
 
   pub stopped-begins : (l : ℕ) → begunOf problem asked (Stopped (stoppedOf problem asked l (startOf problem))) ≡ B.At (stoppedOf problem asked l (startOf problem))
-  unfolding begunOf
+  unfolding begunOf begunBy
   stopped-begins l =
       let b = stoppedOf problem asked l (startOf problem) in
-      ap (λ (t : Bool). cond t (B.At b) B.Wrong) (goes-back problem asked b (stopped-goes l))
+      ap (λ (c : Checked). begunBy c b) (goes-back problem asked b (stopped-goes l))
 
   -- and row 1
   pub stopped-finite : (l : ℕ) → allMeet (timesInput (Stopped (stoppedOf problem asked l (startOf problem)))) ≡ true

@@ -17,16 +17,14 @@ use Rattle.iterator.specs.declared.Beginning.{Beginning}
 use Rattle.kepler.specs.declared.Motion.{Motion}
 use Rattle.kepler.specs.declared.Arrival.{Arrival}
 use Rattle.kepler.specs.declared.Arrival.the-variants.{At, Out}
-use Rattle.kepler.specs.Kepler.{turnedOf, fallRow, arrivalOf}
+use Rattle.kepler.specs.Kepler.{turnedOf, arrivalOf}
 use Rattle.lambert.specs.declared.Way.{Way}
 use Rattle.lambert.specs.declared.Transfer.{Transfer}
 use Rattle.lambert.specs.Lambert.{transferOf, velocityOf, resultRow}
-use Rattle.problem.specs.Problems.{stoppedOf}
-use Rattle.problem.specs.declared.Problem.the-variants.{Kepler, Lambert}
-use Rattle.solve.specs.Begun.{keplerAhead, lambertAhead, begunOf}
-use Rattle.solve.specs.Answers.{standardFractions, gradeOf, endingBy, endingOf, concludedOf, outcomeTo, foundAs, arrivedAs, motionFor, turnsFor, advancedFrom, advanceTo, movedBy, movedAs, transferredFrom, transferVelocityTo}
-use Rattle.solve.specs.declared.Begun.{Begun}
-use Rattle.solve.specs.declared.Begun.the-variants as B
+use Rattle.solve.specs.Ends.{motionFor, turnsFor, keplerEnded, lambertEnded}
+use Rattle.solve.specs.Answers.{standardFractions, gradeOf, endingBy, endingOf, concludedOf, foundAs, arrivedAs, advancedEnd, advanceTo, movedBy, movedAs, transferredEnd, transferVelocityTo}
+use Rattle.solve.specs.declared.Ended.{Ended}
+use Rattle.solve.specs.declared.Ended.the-variants as E
 use Rattle.solve.specs.declared.Solution.{Solution}
 use Rattle.solve.specs.declared.Outcome.{Outcome}
 use Rattle.solve.specs.declared.Outcome.the-variants as O
@@ -100,24 +98,19 @@ moved-own d size O.TooShort e = tt
 moved-own d size (O.NotFinished b) e = tt
 
 pub advance-own : (mu : Float) (s : State) (t : Float) (limit : ℕ) (g : Beginning) → OwnAdvanced (sizeOf t) (advanceTo mu s t limit g)
-unfolding advancedFrom
-advance-own mu s t limit g = go (firstFailing (keplerAhead mu s t (motionFor mu s t) g)) (begunOf (Kepler (motionFor mu s t)) (turnsFor mu s t .rest) g) (firstFailing (fallRow mu s (motionFor mu s t .orbit .r1)))
+unfolding advancedEnd
+advance-own mu s t limit g = go (keplerEnded mu s t limit g)
   where
-    go : (p : Test) (v : Begun) (q : Test) → OwnAdvanced (sizeOf t) (advancedFrom p v q (motionFor mu s t) (turnedOf t s) t (sizeOf t) limit)
-    go (Failed f) v q = tt
-    go Passed B.Wrong q = tt
-    go Passed (B.At b) (Failed f) = tt
-    go Passed (B.At b) Passed =
-        arrived-own (motionFor mu s t) (turnedOf t s) t (sizeOf t) (turnsFor mu s t .turns) (outcomeTo (Kepler (motionFor mu s t)) (sizeOf t) (turnsFor mu s t .rest) limit b)
-        (concluded-own (sizeOf t) (turnsFor mu s t .rest) (stoppedOf (Kepler (motionFor mu s t)) (turnsFor mu s t .rest) limit b))
+    go : (e : Ended) → OwnAdvanced (sizeOf t) (advancedEnd e (motionFor mu s t) (turnedOf t s) t (sizeOf t))
+    go (E.Refused f) = tt
+    go (E.Wrong a) = tt
+    go (E.At b) = arrived-own (motionFor mu s t) (turnedOf t s) t (sizeOf t) (turnsFor mu s t .turns) (concludedOf (sizeOf t) (turnsFor mu s t .rest) b) (concluded-own (sizeOf t) (turnsFor mu s t .rest) b)
 
 pub transfer-own : (mu : Float) (first second : Vector) (way : Way) (t : Float) (limit : ℕ) (g : Beginning) → OwnTransferred t (transferVelocityTo mu first second way t limit g)
-unfolding transferredFrom
-transfer-own mu first second way t limit g = go (firstFailing (lambertAhead mu first second way t (transferOf mu first second way) g)) (begunOf (Lambert (transferOf mu first second way)) t g)
+unfolding transferredEnd
+transfer-own mu first second way t limit g = go (lambertEnded mu first second way t limit g)
   where
-    go : (p : Test) (v : Begun) → OwnTransferred t (transferredFrom p v (transferOf mu first second way) t limit)
-    go (Failed f) v = tt
-    go Passed B.Wrong = tt
-    go Passed (B.At b) =
-        moved-own (transferOf mu first second way) t (outcomeTo (Lambert (transferOf mu first second way)) t t limit b)
-        (concluded-own t t (stoppedOf (Lambert (transferOf mu first second way)) t limit b))
+    go : (e : Ended) → OwnTransferred t (transferredEnd e (transferOf mu first second way) t)
+    go (E.Refused f) = tt
+    go (E.Wrong a) = tt
+    go (E.At b) = moved-own (transferOf mu first second way) t (concludedOf t t b) (concluded-own t t b)

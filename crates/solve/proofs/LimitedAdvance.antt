@@ -25,7 +25,8 @@ use Rattle.kepler.specs.Kepler.{turnedOf, inputRow, rangeRows, fallRow, keplerT
 use Rattle.problem.specs.Problems.{startOf, stoppedOf}
 use Rattle.problem.specs.declared.Problem.the-variants.{Kepler}
 use Rattle.solve.specs.Begun.{timesInput, keplerAhead, begunOf}
-use Rattle.solve.specs.Answers.{outcomeTo, foundAs, arrivedAs, motionFor, turnsFor, advancedBy, advanceOf, advancedFrom, advanceTo, advancedNumber}
+use Rattle.solve.specs.Ends.{motionFor, turnsFor, endedFrom}
+use Rattle.solve.specs.Answers.{outcomeTo, foundAs, arrivedAs, advancedBy, advanceOf, advancedEnd, advanceTo, advancedNumber}
 use Rattle.solve.specs.declared.Solution.{Solution}
 use Rattle.solve.specs.declared.Outcome.{Outcome}
 use Rattle.solve.specs.declared.Outcome.the-variants as O
@@ -77,7 +78,7 @@ module _ (mu : Float) (s : State) (t : Float) where
   fall = firstFailing (fallRow mu s (m .orbit .r1))
 
   abbrev by : Test → Begun → Test → ℕ → Advanced
-  by p v q limit = advancedFrom p v q m (turnedOf t s) t (sizeOf t) limit
+  by p v q limit = advancedEnd (endedFrom p v q (Kepler m) rest limit) m (turnedOf t s) t (sizeOf t)
 
   abbrev ended : ℕ → Bracket → Advanced
   ended limit b = arrivedAs m (turnedOf t s) t (turnsFor mu s t .turns) (outcomeTo (Kepler m) (sizeOf t) rest limit b)
@@ -86,7 +87,7 @@ module _ (mu : Float) (s : State) (t : Float) where
   whole p = advancedBy p m (turnedOf t s) t (sizeOf t)
 
   pub advance-free : (limit : ℕ) → 74 ≤ limit → advanceTo mu s t limit Start ≡ advanceOf mu s t
-  unfolding advancedFrom advancedBy begunOf
+  unfolding advancedEnd endedFrom advancedBy begunOf
   advance-free limit k = go (ahead Start) fall refl refl
     where
       go : (p q : Test) → ahead Start ≡ p → fall ≡ q → by p (B.At start) q limit ≡ whole (firstFailing (keplerTests mu s t m))
@@ -107,12 +108,12 @@ module _ (mu : Float) (s : State) (t : Float) where
       go (Failed f) e = let z : _≡_ {A = ℕ} 0 1 = cc in zero-one z
 
   pub advance-raised : (l n : ℕ) (g : Beginning) → l ≤ n → (advancedNumber (advanceTo mu s t l g) ≡ 29 → ⊥) → advanceTo mu s t n g ≡ advanceTo mu s t l g
-  unfolding advancedFrom advancedNumber arrivedAs
+  unfolding advancedEnd endedFrom advancedNumber arrivedAs
   advance-raised l n g k h = go (ahead g) (begunOf (Kepler m) rest g) fall h
     where
       go : (p : Test) (v : Begun) (q : Test) → (advancedNumber (by p v q l) ≡ 29 → ⊥) → by p v q n ≡ by p v q l
       go (Failed f) v q h = refl
-      go Passed B.Wrong q h = refl
+      go Passed (B.Wrong a) q h = refl
       go Passed (B.At b) (Failed f) h = refl
       go Passed (B.At b) Passed h =
           ap (arrivedAs m (turnedOf t s) t (turnsFor mu s t .turns))
@@ -135,7 +136,7 @@ module _ (mu : Float) (s : State) (t : Float) where
     begins : begunOf (Kepler m) rest (Stopped b) ≡ B.At b
 
   handed-out : (l : ℕ) (b : Bracket) → advanceTo mu s t l Start ≡ Ad.NotFinished b → Handed l b
-  unfolding advancedFrom begunOf
+  unfolding advancedEnd endedFrom begunOf
   handed-out l b e = go (ahead Start) fall refl refl e
     where
       go : (p q : Test) → ahead Start ≡ p → fall ≡ q → by p (B.At start) q l ≡ Ad.NotFinished b → Handed l b
@@ -154,7 +155,7 @@ module _ (mu : Float) (s : State) (t : Float) where
           }
 
   pub advance-taken-up : (l n : ℕ) (b : Bracket) → advanceTo mu s t l Start ≡ Ad.NotFinished b → advanceTo mu s t n (Stopped b) ≡ ended n b
-  unfolding advancedFrom
+  unfolding advancedEnd endedFrom
   advance-taken-up l n b e =
       let h = handed-out l b e in
       ap (λ (p : Test). by p (begunOf (Kepler m) rest (Stopped b)) fall n) (h .again)
@@ -165,7 +166,7 @@ module _ (mu : Float) (s : State) (t : Float) where
   advance-not-six l n b e k = arrived-not-six m (turnedOf t s) t (turnsFor mu s t .turns) (outcomeTo (Kepler m) (sizeOf t) rest n b) (ap advancedNumber (sym (advance-taken-up l n b e)) ∙ k)
 
   pub advance-goes-on : (l n : ℕ) (b : Bracket) → l ≤ n → advanceTo mu s t l Start ≡ Ad.NotFinished b → advanceTo mu s t n (Stopped b) ≡ advanceTo mu s t n Start
-  unfolding advancedFrom begunOf
+  unfolding advancedEnd endedFrom begunOf
   advance-goes-on l n b k e =
       let h = handed-out l b e in
       advance-taken-up l n b e

@@ -20,8 +20,9 @@ use Rattle.lambert.specs.Lambert.{transferOf, lambertTests, velocityOf, resultR
 use Rattle.problem.specs.Problems.{startOf, stoppedOf}
 use Rattle.problem.specs.declared.Problem.the-variants.{Lambert}
 use Rattle.solve.specs.Begun.{timesInput, lambertAhead, begunOf}
+use Rattle.solve.specs.Ends.{endedFrom}
 use Rattle.solve.specs.Answers.{outcomeTo}
-use Rattle.solve.specs.Answers.{movedBy, movedAs, transferredBy, transferVelocityOf, transferredFrom, transferVelocityTo, transferredNumber}
+use Rattle.solve.specs.Answers.{movedBy, movedAs, transferredBy, transferVelocityOf, transferredEnd, transferVelocityTo, transferredNumber}
 use Rattle.solve.specs.declared.Solution.{Solution}
 use Rattle.solve.specs.declared.Outcome.{Outcome}
 use Rattle.solve.specs.declared.Outcome.the-variants as O
@@ -69,13 +70,13 @@ module _ (mu : Float) (first second : Vector) (way : Way) (t : Float) where
   ahead g = firstFailing (lambertAhead mu first second way t d g)
 
   abbrev by : Test → Begun → ℕ → Transferred
-  by p v limit = transferredFrom p v d t limit
+  by p v limit = transferredEnd (endedFrom p v Passed (Lambert d) t limit) d t
 
   abbrev ended : ℕ → Bracket → Transferred
   ended limit b = movedAs d (outcomeTo (Lambert d) t t limit b)
 
   pub transfer-free : (limit : ℕ) → 52 ≤ limit → transferVelocityTo mu first second way t limit Start ≡ transferVelocityOf mu first second way t
-  unfolding transferredFrom transferredBy begunOf
+  unfolding transferredEnd endedFrom transferredBy begunOf
   transfer-free limit k = ap (λ (p : Test). by p (B.At start) limit) (lambert-start mu first second way t d) ∙ go (firstFailing (lambertTests mu first second way t d))
     where
       go : (p : Test) → by p (B.At start) limit ≡ transferredBy p d t
@@ -92,12 +93,12 @@ module _ (mu : Float) (first second : Vector) (way : Way) (t : Float) where
 
   pub transfer-raised : (l n : ℕ) (g : Beginning) → l ≤ n → (transferredNumber (transferVelocityTo mu first second way t l g) ≡ 29 → ⊥)
       → transferVelocityTo mu first second way t n g ≡ transferVelocityTo mu first second way t l g
-  unfolding transferredFrom transferredNumber movedAs
+  unfolding transferredEnd endedFrom transferredNumber movedAs
   transfer-raised l n g k h = go (ahead g) (begunOf (Lambert d) t g) h
     where
       go : (p : Test) (v : Begun) → (transferredNumber (by p v l) ≡ 29 → ⊥) → by p v n ≡ by p v l
       go (Failed f) v h = refl
-      go Passed B.Wrong h = refl
+      go Passed (B.Wrong a) h = refl
       go Passed (B.At b) h = ap (movedAs d) (outcome-raised (Lambert d) t t l n b k (λ c e. h (ap (λ (o : Outcome). transferredNumber (movedAs d o)) e)))
 
   pub transfer-finished : (l : ℕ) → (transferredNumber (transferVelocityTo mu first second way t l Start) ≡ 29 → ⊥)
@@ -115,7 +116,7 @@ module _ (mu : Float) (first second : Vector) (way : Way) (t : Float) where
     begins : begunOf (Lambert d) t (Stopped b) ≡ B.At b
 
   handed-out : (l : ℕ) (b : Bracket) → transferVelocityTo mu first second way t l Start ≡ Tr.NotFinished b → Handed l b
-  unfolding transferredFrom begunOf
+  unfolding transferredEnd endedFrom begunOf
   handed-out l b e = go (ahead Start) refl e
     where
       go : (p : Test) → ahead Start ≡ p → by p (B.At start) l ≡ Tr.NotFinished b → Handed l b
@@ -132,7 +133,7 @@ module _ (mu : Float) (first second : Vector) (way : Way) (t : Float) where
           }
 
   pub transfer-taken-up : (l n : ℕ) (b : Bracket) → transferVelocityTo mu first second way t l Start ≡ Tr.NotFinished b → transferVelocityTo mu first second way t n (Stopped b) ≡ ended n b
-  unfolding transferredFrom
+  unfolding transferredEnd endedFrom
   transfer-taken-up l n b e =
       let h = handed-out l b e in
       ap (λ (p : Test). by p (begunOf (Lambert d) t (Stopped b)) n) (h .again) ∙ ap (λ (v : Begun). by Passed v n) (h .begins)
@@ -143,7 +144,7 @@ module _ (mu : Float) (first second : Vector) (way : Way) (t : Float) where
 
   pub transfer-goes-on : (l n : ℕ) (b : Bracket) → l ≤ n → transferVelocityTo mu first second way t l Start ≡ Tr.NotFinished b
       → transferVelocityTo mu first second way t n (Stopped b) ≡ transferVelocityTo mu first second way t n Start
-  unfolding transferredFrom begunOf
+  unfolding transferredEnd endedFrom begunOf
   transfer-goes-on l n b k e =
       let h = handed-out l b e in
       transfer-taken-up l n b e

@@ -16,7 +16,7 @@ use Rattle.kepler.specs.Kepler.{trialAt, judgedTrial, keplerJudge}
 use Rattle.problem.specs.Problems.{startOf, heldOf, lastOf}
 use Rattle.problem.specs.declared.Problem.the-variants.{Kepler}
 use Rattle.solve.proofs.Asked.{Asked}
-use Rattle.solve.proofs.Ended.{last-sound, held-below}
+use Rattle.solve.proofs.Last.{last-sound, held-below}
 
 abbrev NotUnder : Judgement → Type 0
 NotUnder (Low t) = Prim.Unit
@@ -26,7 +26,7 @@ NotUnder Over = Prim.Unit
 
 trial-not-under : (asked : Float) (r : Trial) → NotUnder (judgedTrial asked r)
 unfolding judgedTrial judgedOf
-trial-not-under asked Trial.Out = tt
+trial-not-under asked (Trial.Out e) = tt
 trial-not-under asked (Trial.At p) = go (inTime (p .t)) (p .t ≤ᶠ asked)
   where
     go : (a b : Bool) → NotUnder (cond a (cond b (Low (p .t)) (High (p .t))) Over)

@@ -30,14 +30,15 @@ use Rattle.lambert.specs.declared.Way.{Way}
 use Rattle.lambert.specs.Lambert.{transferOf, lambertTests, judgedReach, velocityOf, resultRow}
 use Rattle.problem.specs.Problems.{judgeOf, startOf, heldOf, lastOf, mostOf}
 use Rattle.solve.specs.Times.{time, none, carriedBy, timedTrial, timedReach, timeInside, timeAt}
-use Rattle.solve.specs.Answers.{solutionOf, motionFor, turnsFor, advanceOf, transferVelocityOf}
+use Rattle.solve.specs.Ends.{motionFor, turnsFor}
+use Rattle.solve.specs.Answers.{solutionOf, advanceOf, transferVelocityOf}
 use Rattle.problem.specs.declared.Problem.{Problem}
 use Rattle.problem.specs.declared.Problem.the-variants.{Kepler, Lambert}
 use Rattle.solve.specs.declared.Solution.{Solution}
 use Rattle.solve.specs.declared.Advanced.the-variants as Ad
 use Rattle.solve.specs.declared.Transferred.the-variants as Tr
 use Rattle.solve.proofs.Asked.{Asked, rest-asked, lambert-asked}
-use Rattle.solve.proofs.Ended.{last-sound, held-below, held-above, last-ends}
+use Rattle.solve.proofs.Last.{last-sound, held-below, held-above, last-ends}
 use Rattle.solve.proofs.Demand.{Met, met-count, advance-result, result-advance, transfer-result, result-transfer}
 
 -- ---- a judgement is the computed time, judged against the time asked for
@@ -56,13 +57,13 @@ judge-carries (Kepler m) asked n = by-trial _
   where
     by-trial : (r : Trial) → carriedBy (judgedTrial asked r) ≡ timedTrial r
     by-trial (T.At p) = unfold judgedTrial timedTrial in judged-carries asked (p .t)
-    by-trial T.Out = unfold judgedTrial timedTrial in refl
+    by-trial (T.Out e) = unfold judgedTrial timedTrial in refl
 judge-carries (Lambert d) asked n = by-reach _
   where
     by-reach : (r : Reached) → carriedBy (judgedReach asked r) ≡ timedReach r
     by-reach (R.Time t) = unfold judgedReach timedReach in judged-carries asked t
-    by-reach R.Under = unfold judgedReach timedReach in refl
-    by-reach R.Over = unfold judgedReach timedReach in refl
+    by-reach (R.Under e) = unfold judgedReach timedReach in refl
+    by-reach (R.Over e) = unfold judgedReach timedReach in refl
 
 held-carries : (problem : Problem) (asked : Float) (n : ℤ) → carriedBy (heldOf problem asked n) ≡ timeAt problem n
 unfolding heldOf timeAt

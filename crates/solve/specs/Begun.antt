@@ -1,5 +1,4 @@
 -- Where the trials begin: at the grid's own ends, or where a run stopped (T-14). Assumes nothing: these are definitions.
-use mathlib.Core.Bool.{cond}
 use mathlib.Core.List.{List, [], _++_}
 use lib.Ieee.{Float}
 use Rattle.table.specs.declared.Name.{Name}
@@ -16,8 +15,11 @@ use Rattle.lambert.specs.declared.Way.{Way}
 use Rattle.lambert.specs.declared.Transfer.{Transfer}
 use Rattle.lambert.specs.Lambert as L
 use Rattle.problem.specs.Problems.{startOf}
-use Rattle.problem.specs.Held.{goesOn}
+use Rattle.problem.specs.Held.{checkedOf}
+use Rattle.problem.specs.declared.Checked.{Checked}
+use Rattle.problem.specs.declared.Checked.the-variants as C
 use Rattle.problem.specs.declared.Problem.{Problem}
+use Rattle.iterator.specs.declared.Bracket.{Bracket}
 use Rattle.iterator.specs.declared.Beginning.{Beginning}
 use Rattle.iterator.specs.declared.Beginning.the-variants.{Start, Stopped}
 use Rattle.solve.specs.declared.Begun.{Begun}
@@ -43,6 +45,10 @@ abbrev pub lambertAhead : Float → Vector → Vector → Way → Float → Tran
 lambertAhead mu first second way t d g = L.inputRow mu first second way t ++ timesInput g ++ L.rangeRows mu first second way t d
 
 -- a stopped bracket is taken as it stands if trials can go on from it
+unfoldable pub begunBy : Checked → Bracket → Begun
+begunBy C.Fine b = At b
+begunBy (C.Wrong a) b = Wrong a
+
 unfoldable pub begunOf : Problem → Float → Beginning → Begun
 begunOf problem asked Start = At (startOf problem)
-begunOf problem asked (Stopped b) = cond (goesOn problem asked b) (At b) Wrong
+begunOf problem asked (Stopped b) = begunBy (checkedOf problem asked b) b

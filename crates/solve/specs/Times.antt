@@ -31,12 +31,12 @@ carriedBy Over = none
 -- a time counts within −2^28..2^28
 unfoldable pub timedTrial : Trial → Computed
 timedTrial (T.At p) = cond (inTime (p .t)) (time (p .t)) none
-timedTrial T.Out = none
+timedTrial (T.Out e) = none
 
 unfoldable pub timedReach : Reached → Computed
 timedReach (R.Time t) = cond (inTime t) (time t) none
-timedReach R.Under = none
-timedReach R.Over = none
+timedReach (R.Under e) = none
+timedReach (R.Over e) = none
 
 abbrev pub timeInside : Problem → ℤ → Computed
 timeInside (Kepler m) n = timedTrial (trialAt m n)

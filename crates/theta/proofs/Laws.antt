@@ -137,8 +137,8 @@ unfolding toldOf
 told-time s (R.Time t) z e =
     let k : record { time = t; state = s } ≡ z = cc in
     (ap (λ (x : Timed). R.Time (x .time)) k, sym (ap (λ (x : Timed). x .state) k))
-told-time s R.Under z e = (cc, cc)
-told-time s R.Over z e = (cc, cc)
+told-time s (R.Under q) z e = (cc, cc)
+told-time s (R.Over q) z e = (cc, cc)
 
 -- no answer holds an infinity or a NaN: the time is finite, and so is the state, the one given
 pub theta-handed : (mu : Float) (s : State) (sin cos : Float) (z : Timed) → thetaOf mu s sin cos ≡ Time z → Handed s z

@@ -71,8 +71,8 @@ arcOf mu d = record {
 -- over is 7, too long; under is 8, too short
 unfoldable pub toldOf : State → Reached → TransferTime
 toldOf s (R.Time t) = Time (record { time = t; state = s })
-toldOf s R.Under = TooShort
-toldOf s R.Over = TooLong
+toldOf s (R.Under e) = TooShort
+toldOf s (R.Over e) = TooLong
 
 -- a refusal keeps the number of the test that failed
 unfoldable pub answered : Test → TransferTime → TransferTime

@@ -105,7 +105,7 @@ pub fn tests(mu: f64, s: State, sin: f64, cos: f64, d: Sweep) -> Test
 }
 
 // What steps 4 to 7 are given.
-fn arc_of(mu: f64, d: Sweep) -> Arc
+pub fn arc_of(mu: f64, d: Sweep) -> Arc
     ensures { λ r. ⌜ r ≡ arcOf mu d ⌝ }
 {
     Arc {
@@ -125,8 +125,8 @@ fn told(s: State, r: Reached) -> TransferTime
 {
     match r {
         Reached::Time(time) => TransferTime::Time(Timed { time, state: s }),
-        Reached::Under => TransferTime::TooShort,
-        Reached::Over => TransferTime::TooLong,
+        Reached::Under(_) => TransferTime::TooShort,
+        Reached::Over(_) => TransferTime::TooLong,
     }
 }
 

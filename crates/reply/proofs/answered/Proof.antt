@@ -7,6 +7,7 @@ use Rattle.text.specs.Pieces.{end}
 use Rattle.answers.specs.Answers.{answerPieces, triedPieces}
 use Rattle.changes.specs.Changes.{burnPieces}
 use Rattle.reply.specs.Replies.{replyOf}
+use Rattle.reasons.specs.Lines.{reasonPieces}
 use Rattle.reply.proofs.Fits.{laid-as}
 use Rattle.reply.proofs.answered.Statement.{statement}
 use Rattle.reply.proofs.answered.Tie as tie
@@ -77,6 +78,15 @@ enum-known-request-8 c = search needs
 unread-requires : tie.Need-unread-requires
 unread-requires c κs = search needs
 
+enum-known-request-9 : tie.Need-enum-known-request-9
+enum-known-request-9 c = search needs
+
+reason-of-requires : tie.Need-reason-of-requires
+reason-of-requires c κs = search needs
+
+tell-requires : tie.Need-tell-requires
+tell-requires c κs = search needs
+
 returns : tie.Need-returns
 returns c = laid-as (ap (replyOf _) (sym (c .enum-told .given .1))) end
 
@@ -141,6 +151,12 @@ same-length-8 c = search needs
 returns-9 : tie.Need-returns-9
 returns-9 c = laid-as (ap (replyOf _) (sym (c .before .before .before .before .before .request8 .given .1))) (c .before .before .unread .ensures)
 
+same-length-9 : tie.Need-same-length-9
+same-length-9 c = search needs
+
+returns-10 : tie.Need-returns-10
+returns-10 c = laid-as (ap reasonPieces (c .before .before .before .reason-of .ensures) ∙ ap (replyOf _) (sym (c .before .before .before .before .before .before .request9 .given .1))) (c .before .before .tell .ensures)
+
 pub answered-spec : {M : Type 1} → statement M
 answered-spec =
     tie.close
@@ -167,6 +183,9 @@ answered-spec =
     tell-burn-requires
     enum-known-request-8
     unread-requires
+    enum-known-request-9
+    reason-of-requires
+    tell-requires
     returns
     same-length
     returns-2
@@ -183,4 +202,6 @@ answered-spec =
     same-length-7
     returns-8
     same-length-8
-    returns-9)
+    returns-9
+    same-length-9
+    returns-10)

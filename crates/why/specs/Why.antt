@@ -1,0 +1,123 @@
+-- Why a solve refuses, or that it does not (T-07), from the solve's own tests and trials. Assumes nothing: these are definitions.
+use Prim.Native.Nat.{ℕ}
+use mathlib.Core.Bool.{cond}
+use lib.Ieee.{Float}
+use Rattle.vector.specs.declared.Vector.{Vector}
+use Rattle.vector.specs.declared.State.{State}
+use Rattle.table.specs.declared.Test.{Test}
+use Rattle.table.specs.declared.Test.the-variants.{Passed, Failed}
+use Rattle.table.specs.Tests.{firstFailing}
+use Rattle.iterator.specs.Run.{more}
+use Rattle.iterator.specs.declared.Judgement.{Judgement}
+use Rattle.iterator.specs.declared.Judgement.the-variants.{Low, High, Under, Over}
+use Rattle.iterator.specs.declared.Bracket.{Bracket}
+use Rattle.iterator.specs.declared.Beginning.{Beginning}
+use Rattle.kepler.specs.declared.Motion.{Motion}
+use Rattle.kepler.specs.declared.Arrival.{Arrival}
+use Rattle.kepler.specs.declared.Arrival.the-variants.{At, Out}
+use Rattle.kepler.specs.Kepler.{turnedOf, arrivalOf}
+use Rattle.reach.specs.declared.Reached.{Reached}
+use Rattle.reach.specs.declared.Reached.the-variants as H
+use Rattle.reach.specs.Reach.{reachOf}
+use Rattle.lambert.specs.declared.Way.{Way}
+use Rattle.lambert.specs.declared.Transfer.{Transfer}
+use Rattle.lambert.specs.Lambert.{transferOf, velocityOf, resultRow}
+use Rattle.theta.specs.declared.Sweep.{Sweep}
+use Rattle.theta.specs.Theta.{sweepOf, thetaTests, arcOf}
+use Rattle.apsides.specs.Apsides.{shapeOf, apsidesTests}
+use Rattle.problem.specs.Stops.{stopOf}
+use Rattle.problem.specs.declared.Problem.{Problem}
+use Rattle.problem.specs.declared.Problem.the-variants.{Kepler, Lambert}
+use Rattle.solve.specs.Ends.{motionFor, keplerEnded, lambertEnded}
+use Rattle.solve.specs.declared.Ended.{Ended}
+use Rattle.solve.specs.declared.Ended.the-variants as E
+use Rattle.reason.specs.declared.Neighbours.{Neighbours}
+use Rattle.reason.specs.declared.Reason.{Reason}
+use Rattle.reason.specs.declared.Reason.the-variants as R
+use Rattle.why.specs.declared.Told.{Told}
+use Rattle.why.specs.declared.Told.the-variants as T
+
+-- 8 where the lower neighbour has no time, and what stopped it; Kepler's always has one, and the solve's number there is 7
+abbrev pub shortBy : Problem → Bracket → Reason
+shortBy (Kepler m) b = R.TooLong b (stopOf (Kepler m) (b .lo))
+shortBy (Lambert d) b = R.TooShort b (stopOf (Lambert d) (b .lo))
+
+-- 7 where the upper one has none
+abbrev pub longBy : Problem → Bracket → Reason
+longBy problem b = R.TooLong b (stopOf problem (b .hi))
+
+abbrev pub neighboursOf : Bracket → Float → Float → Neighbours
+neighboursOf b below above = record { lo = b .lo; below = below; hi = b .hi; above = above; count = b .count }
+
+-- by the judgements of the two ends
+unfoldable pub toldBy : Problem → Bracket → Judgement → Judgement → Told
+toldBy problem b (Low t) (High u) = T.Timed (neighboursOf b t u)
+toldBy problem b (Low t) (Low u) = T.Not (longBy problem b)
+toldBy problem b (Low t) Under = T.Not (longBy problem b)
+toldBy problem b (Low t) Over = T.Not (longBy problem b)
+toldBy problem b (High t) above = T.Not (shortBy problem b)
+toldBy problem b Under above = T.Not (shortBy problem b)
+toldBy problem b Over above = T.Not (shortBy problem b)
+
+-- 29 while hi − lo > 1
+unfoldable pub toldOf : Problem → Bracket → Told
+toldOf problem b = cond (more b) (T.Not (R.NotFinished b)) (toldBy problem b (b .below) (b .above))
+
+-- 9, of the state at the lower neighbour
+unfoldable pub arrivalBy : Arrival → Neighbours → Reason
+arrivalBy (At s) n = R.Between n
+arrivalBy (Out e) n = R.Test e
+
+unfoldable pub arrivedBy : Motion → State → Told → Reason
+arrivedBy m from (T.Timed n) = arrivalBy (arrivalOf m from (n .lo)) n
+arrivedBy m from (T.Not r) = r
+
+-- 9, of the velocity there
+unfoldable pub rangeBy : Test → Neighbours → Reason
+rangeBy Passed n = R.Between n
+rangeBy (Failed e) n = R.Test e
+
+unfoldable pub movedBy : Transfer → Told → Reason
+movedBy d (T.Timed n) = rangeBy (firstFailing (resultRow (velocityOf d (n .lo)))) n
+movedBy d (T.Not r) = r
+
+-- ---- the four solves
+
+unfoldable pub advanceReason : Ended → Motion → State → Reason
+advanceReason (E.Refused e) m from = R.Test e
+advanceReason (E.Wrong a) m from = R.Amiss a
+advanceReason (E.At b) m from = arrivedBy m from (toldOf (Kepler m) b)
+
+abbrev pub whyAdvance : Float → State → Float → ℕ → Beginning → Reason
+whyAdvance mu s t limit g = advanceReason (keplerEnded mu s t limit g) (motionFor mu s t) (turnedOf t s)
+
+unfoldable pub transferReason : Ended → Transfer → Reason
+transferReason (E.Refused e) d = R.Test e
+transferReason (E.Wrong a) d = R.Amiss a
+transferReason (E.At b) d = movedBy d (toldOf (Lambert d) b)
+
+abbrev pub whyTransfer : Float → Vector → Vector → Way → Float → ℕ → Beginning → Reason
+whyTransfer mu first second way t limit g = transferReason (lambertEnded mu first second way t limit g) (transferOf mu first second way)
+
+-- for a transfer time the range test alone
+unfoldable pub reachedReason : Reached → Reason
+reachedReason (H.Time t) = R.Solved
+reachedReason (H.Under e) = R.Range e
+reachedReason (H.Over e) = R.Range e
+
+unfoldable pub timeReason : Test → Reached → Reason
+timeReason (Failed e) r = R.Test e
+timeReason Passed r = reachedReason r
+
+abbrev pub whyTimeFrom : Float → State → Float → Float → Sweep → Reason
+whyTimeFrom mu s sin cos d = timeReason (firstFailing (thetaTests mu s sin cos d)) (reachOf (arcOf mu d))
+
+abbrev pub whyTime : Float → State → Float → Float → Reason
+whyTime mu s sin cos = whyTimeFrom mu s sin cos (sweepOf mu s sin cos)
+
+unfoldable pub testReason : Test → Reason
+testReason (Failed e) = R.Test e
+testReason Passed = R.Solved
+
+abbrev pub whyApsides : Float → State → Reason
+whyApsides mu s = testReason (firstFailing (apsidesTests mu s (shapeOf mu s)))
