@@ -4,7 +4,7 @@ import math
 import re
 
 from . import plots
-from .report import COLUMNS, by_cabin, cells, clock, counts, days_of, failed_first, headline, places
+from .report import COLUMNS, by_cabin, cells, clock, counts, days_of, failed_first, headline, many, places
 from .verdict import Broken, parsed, worst_of
 
 PLOTTED = 1000  # sessions with pictures, what failed first; more would make the page too large for a phone
@@ -35,13 +35,13 @@ figcaption { font-size: .85rem; color: #333; } svg { width: 100%; height: auto; 
   #days th, #days td { padding: .25rem .2rem; } #days td span { display: block; } #days thead th + th { writing-mode: vertical-rl; transform: rotate(180deg); text-align: left; max-height: 9rem; overflow: hidden; }
   #sessions thead { display: none; } #sessions table, #sessions tbody { display: block; }
   #sessions tr { display: flex; flex-wrap: wrap; gap: 0 .6rem; align-items: baseline; border-bottom: 1px solid #bbb; padding: .45rem 0; }
-  #sessions td { border: 0; padding: 0; text-align: left; } #sessions td:empty { display: none; } #sessions [data-is="verdict"] { order: -1; } #sessions [data-is="reason"] { flex-basis: 100%; }
-  #sessions [data-is="day"]::before, #sessions .s::before { content: attr(data-is) " "; } #sessions .s { font-size: .85rem; color: #444; }
+  #sessions td { border: 0; padding: 0; text-align: left; } #sessions td:empty:not(.r) { display: none; } #sessions [data-is="verdict"] { order: -1; } #sessions .r { flex-basis: 100%; }
+  #sessions [data-is="day"]::before, #sessions .s::before { content: attr(data-is) " "; } #sessions .s { font-size: .85rem; } #sessions .s:not(.failed) { color: #444; }
   figure.o { display: flex; gap: .5rem; align-items: center; flex-basis: 100%; max-width: none; } figure.o svg { flex: 0 0 55%; min-width: 0; }
 }
 @media print {
   @page { margin: 12mm; } body { font-size: 9.5pt; max-width: none; margin: 0; padding: 0; } nav, details:not([open]) { display: none; } a { color: inherit; text-decoration: none; }
-  tr, figure, .row, summary { break-inside: avoid; } h2, summary { break-after: avoid; } th, td { padding: .15rem .3rem; } .r { min-width: 10em; } [data-is="local time"] { white-space: normal; min-width: 8em; } .row { flex-wrap: nowrap; } figure { flex: 2.4; margin: .2rem 0; } figure.o { flex: 1; }
+  tr, figure, .row, summary { break-inside: avoid; } h2, summary { break-after: avoid; } th, td { padding: .15rem .25rem; } .r { min-width: 9em; } [data-is="local time"] { white-space: normal; min-width: 7em; } .row { flex-wrap: nowrap; } figure { flex: 2.4; margin: .2rem 0; } figure.o { flex: 1; }
 }
 """
 
@@ -87,19 +87,21 @@ def days_part(results, cabins):
 KINDS = {"session": "w", "reason": "w r", "records": "n s", "marks": "n s", "worst m": "n s", "local time": "s"}
 
 
-def session_row(k, one):
+def session_row(k, one, limit):
     """A row of the table, with the words of report.txt; the name leads to the pictures."""
+    over = " failed" if one["worst"] is not None and one["worst"] > limit else ""
+    kinds = {**KINDS, "verdict": one["verdict"], "worst m": KINDS["worst m"] + over}
     parts = []
     for name, words in zip(COLUMNS, cells(one)):
         text = html.escape(words)
         if name == "session" and k < PLOTTED:
             text = f'<a href="#s{k}">{text}</a>'
-        parts.append(cell(text, one["verdict"] if name == "verdict" else KINDS.get(name, ""), name))
+        parts.append(cell(text, kinds.get(name, ""), name))
     return f"<tr>{''.join(parts)}</tr>"
 
 
-def sessions_part(ordered):
-    rows = "".join(session_row(k, one) for k, one in enumerate(ordered))
+def sessions_part(ordered, limit):
+    rows = "".join(session_row(k, one, limit) for k, one in enumerate(ordered))
     return f'<section id="sessions"><h2>Sessions, what failed first</h2><table>{head(COLUMNS, [KINDS.get(name, "") for name in COLUMNS])}<tbody>{rows}</tbody></table></section>'
 
 
@@ -111,7 +113,7 @@ def figure(drawn, words, kind=""):
 
 def off_figure(got, marks, limit):
     worst, plot = worst_of(marks), plots.off_plot(marks, got.events, limit)
-    words = [f"Computed minus recorded range in m, by the cabin's clock: {len(marks)} marks, limit {limit:g} m",
+    words = [f"Computed minus recorded range in m, by the cabin's clock: {many(len(marks), 'mark')}, limit {limit:g} m",
              f"worst (in the circle) {places(worst.off)} m, record {worst.record}, day {worst.day}, {clock(worst.cs)}", *(words for what, words in EVENTS.items() if f'class="{what}"' in plot)]
     return figure(plot, "; ".join(words) + ".")
 
@@ -155,6 +157,6 @@ def as_html(results, cabins, left, terms, store, limit, mu):
         f'<title>Night run: {html.escape(words)}</title><style>{STYLE}</style></head><body>\n'
         f'<h1>Night run</h1><p class="big">{coloured(words)}</p><p class="small">{html.escape(terms)}</p>'
         '<nav><a href="#days">Days</a><a href="#sessions">Sessions</a><a href="#pictures">Pictures</a></nav>\n'
-        f"{days_part(results, cabins)}\n{sessions_part(ordered)}\n"
+        f"{days_part(results, cabins)}\n{sessions_part(ordered, limit)}\n"
         f'<section id="pictures"><h2>Pictures</h2>{"".join(parts)}{more}</section>\n</body></html>\n'
     )

@@ -9,6 +9,7 @@ MINUTE = 6_000
 WIDTH, HEIGHT, LEFT, RIGHT, TOP, FOOT = 560, 250, 74, 14, 26, 44
 COLUMNS = 240  # with more marks than that, a stroke from the least to the greatest of each column
 EVENTS = 60  # with more than that, none is drawn
+LARGEST = 1e300  # metres in a picture
 STEPS_OF_TIME = [MINUTE * k for k in (1, 2, 5, 10, 15, 30, 60, 120, 180, 360, 720)]
 USUAL = {"earth": 39860120000.0, "moon": 490277800.0}
 RADIUS = {"earth": 6_378_166.0, "moon": 1_738_090.0}
@@ -21,7 +22,7 @@ def label(x, y, words, anchor="middle", kind=""):
 
 
 def metres(x):
-    return f"{x:,.0f}" if abs(x) >= 10 or x == round(x) else f"{x:.3g}"
+    return f"{x:,.0f}" if 10 <= abs(x) < 1e7 or x == 0 else f"{x:.3g}"
 
 
 def line(x, y, to_x, to_y, kind):
@@ -49,22 +50,23 @@ class Frame:
     """Where times and metres lie in the picture."""
 
     def __init__(self, marks, events, limit):
-        times, offs = [mark.time() for mark in marks], [mark.off for mark in marks]
+        times, offs = [mark.time() for mark in marks], [max(-LARGEST, min(mark.off, LARGEST)) for mark in marks]
         spare = 0.25 * (max(times) - min(times))
         times += [event.time() for event in events if min(times) - spare <= event.time() <= max(times) + spare]
         self.start, self.end = min(times), max(times)
         self.events = [event for event in events if self.start <= event.time() <= self.end]
-        peak = max(map(abs, offs)) or 1.0
+        peak = max(map(abs, offs))
         self.limits = [limit, -limit] if peak / 50 <= limit <= 4 * peak else []
         low, high = min([0.0, *offs, *self.limits]), max([0.0, *offs, *self.limits])
-        spare = 0.08 * (high - low)
+        spare = max(0.08 * (high - low), 1e-6)
         self.low, self.high = low - spare, high + spare
 
     def across(self, time):
         return LEFT + 6 + (WIDTH - LEFT - RIGHT - 12) * ((time - self.start) / (self.end - self.start) if self.end > self.start else 0.5)
 
     def up(self, off):
-        return TOP + (HEIGHT - TOP - FOOT) * (self.high - off) / (self.high - self.low)
+        off = max(self.low, min(off, self.high))
+        return TOP + (HEIGHT - TOP - FOOT) * ((self.high - off) / (self.high - self.low))
 
     def scale(self):
         """The metres at the side."""
@@ -203,6 +205,8 @@ class Plane:
 
     def fit(self, points):
         reach, room = max([self.radius, *(math.hypot(*point) for point in points)]), SIDE / 2 - 22
+        if not math.isfinite(reach):
+            raise OverflowError
         true = self.radius / reach
         self.disc = room * (min(true, DISC) if reach < 2 * self.radius else true)
         self.stretch = (room - self.disc) / (reach - self.radius) if reach > self.radius else 0.0
