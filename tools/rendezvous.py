@@ -65,6 +65,11 @@ def turned(frm, to, normal):
     return dot(cross(one, other), normal), dot(one, other)
 
 
+def apart(one, other):
+    """The sine of the angle between two planes."""
+    return length(cross(one.normal(), other.normal()))
+
+
 class Craft(NamedTuple):
     """A vehicle's state at a time."""
     time: int
@@ -175,11 +180,9 @@ def moments(desk, passive, tenths):
 
 def window(desk, passive):
     """When the launch window opens and closes by the lead angle: that of the turn in which the planes are nearest."""
-    def apart(times):
-        craft = ascended(sum(times) // 2, passive.normal())
-        return abs(dot(unit(craft.r), passive.normal()))
     opens, closes = (list(moments(desk, passive, lead)) for lead in LEADS)
-    return min(((start, next(end for end in closes if end > start)) for start in opens[:len(closes)]), key=apart)
+    times = [(start, end) for start in opens for end in closes if start < end < start + HOUR]
+    return min(times, key=lambda pair: apart(ascended(sum(pair) // 2, passive.normal()), passive))
 
 
 # ---- the burns
@@ -276,8 +279,7 @@ def told(desk, name, craft, passive, words):
 def main():
     with Desk() as desk:
         (opens, closes), passive, active, burns = planned(desk)
-        apart = math.degrees(math.asin(dot(unit(active.r), passive.normal())))
-        print(f"{'launch window':<18}{clock(opens)} to {clock(closes)}, planes {abs(apart):.2f} degrees apart")
+        print(f"{'launch window':<18}{clock(opens)} to {clock(closes)}, planes {math.degrees(math.asin(apart(active, passive))):.2f} degrees apart")
         print(told(desk, "insertion", active, passive, ""))
         for burn in burns:
             print(told(desk, burn.name, burn.after, passive, f"{100 * length(burn.change):.2f} m/s"))
