@@ -13,24 +13,35 @@ LARGEST = 1e300  # metres in a picture
 STEPS_OF_TIME = [MINUTE * k for k in (1, 2, 5, 10, 15, 30, 60, 120, 180, 360, 720)]
 USUAL = {"earth": 39860120000.0, "moon": 490277800.0}
 RADIUS = {"earth": 6_378_166.0, "moon": 1_738_090.0}
-SIDE, STEPS, DISC = 300, 72, 0.55  # the disc's share of the picture where heights are stretched
+SIDE, STEPS, DISC = 300, 60, 0.55  # the disc's share of the picture where heights are stretched
 
 
-def label(x, y, words, anchor="middle", kind=""):
-    kind = f' class="{kind}"' if kind else ""
-    return f'<text{kind} x="{x:.0f}" y="{y:.0f}" text-anchor="{anchor}">{words}</text>'
+class Sheet:
+    """A picture as it is drawn: a path for all strokes of a kind, so that a page with many pictures stays light."""
+
+    def __init__(self):
+        self.paths, self.rest = {"grid": "", "axis": ""}, []
+
+    def draw(self, kind, data):
+        self.paths[kind] = self.paths.get(kind, "") + data
+
+    def stroke(self, kind, x, y, to_x, to_y):
+        self.draw(kind, f"M{x:.1f} {y:.1f}L{to_x:.1f} {to_y:.1f}")
+
+    def circle(self, kind, x, y, size):
+        self.rest.append(f'<circle class="{kind}" cx="{x:.1f}" cy="{y:.1f}" r="{size:.1f}"/>')
+
+    def label(self, x, y, words, anchor="middle", kind=""):
+        kind = f' class="{kind}"' if kind else ""
+        self.rest.append(f'<text{kind} x="{x:.0f}" y="{y:.0f}" text-anchor="{anchor}">{words}</text>')
+
+    def svg(self, width, height, words):
+        paths = "".join(f'<path class="{kind}" d="{data}"/>' for kind, data in self.paths.items() if data)
+        return f'<svg viewBox="0 0 {width} {height}" role="img" aria-label="{words}">{paths}{"".join(self.rest)}</svg>'
 
 
 def metres(x):
     return f"{x:,.0f}" if 10 <= abs(x) < 1e7 or x == 0 else f"{x:.3g}"
-
-
-def line(x, y, to_x, to_y, kind):
-    return f'<path class="{kind}" d="M{x:.1f} {y:.1f}L{to_x:.1f} {to_y:.1f}"/>'
-
-
-def svg(width, height, words, parts):
-    return f'<svg viewBox="0 0 {width} {height}" role="img" aria-label="{words}">{"".join(parts)}</svg>'
 
 
 def multiples(step, low, high):
@@ -68,24 +79,23 @@ class Frame:
         off = max(self.low, min(off, self.high))
         return TOP + (HEIGHT - TOP - FOOT) * ((self.high - off) / (self.high - self.low))
 
-    def scale(self):
+    def scale(self, sheet):
         """The metres at the side."""
         for off in multiples(step_for(self.high - self.low, 5), self.low, self.high):
-            yield line(LEFT, self.up(off), WIDTH - RIGHT, self.up(off), "axis" if off == 0 else "grid")
-            yield label(LEFT - 6, self.up(off) + 5, metres(off), "end")
+            sheet.stroke("axis" if off == 0 else "grid", LEFT, self.up(off), WIDTH - RIGHT, self.up(off))
+            sheet.label(LEFT - 6, self.up(off) + 5, metres(off), "end")
 
-    def clock(self):
+    def clock(self, sheet):
         """The local time below, by the hour or what else has room; a midnight has its day."""
         span = self.end - self.start
         step = next((step for step in STEPS_OF_TIME if span / step <= 6), DAY * max(1, math.ceil(span / DAY / 5)))
-        told = 0
-        for time in multiples(step, self.start, self.end):
+        times = multiples(step, self.start, self.end)
+        for time in times:
             x, day = self.across(time), time % DAY == 0
-            yield line(x, TOP, x, HEIGHT - FOOT, "midnight" if day else "grid")
-            yield label(min(x, WIDTH - 22), HEIGHT - FOOT + 18, f"day {time // DAY}" if day else clock(time % DAY, True))
-            told += 1
-        if not told:
-            yield label(self.across(self.start), HEIGHT - FOOT + 18, clock(self.start % DAY), "middle" if self.end == self.start else "start")
+            sheet.stroke("midnight" if day else "grid", x, TOP, x, HEIGHT - FOOT)
+            sheet.label(min(x, WIDTH - 22), HEIGHT - FOOT + 18, f"day {time // DAY}" if day else clock(time % DAY, True))
+        if not times:
+            sheet.label(self.across(self.start), HEIGHT - FOOT + 18, clock(self.start % DAY), "middle" if self.end == self.start else "start")
 
 
 def strokes(points):
@@ -100,9 +110,9 @@ def strokes(points):
     return [columns[column] for column in sorted(columns)]
 
 
-def dots(frame, marks, kind, shape):
+def dots(frame, marks, shape):
     drawn = strokes([(frame.across(mark.time()), frame.up(mark.off)) for mark in marks])
-    return f'<path class="{kind}" d="{"".join(shape(x, low, high - low) for x, low, high in drawn)}"/>' if drawn else ""
+    return "".join(shape(x, low, high - low) for x, low, high in drawn)
 
 
 def dash(x, y, size):
@@ -119,17 +129,20 @@ SIGNS = {"burn": "M{x:.1f} {y:.1f}l-5 9h10z", "state": "M{x:.1f} {y:.1f}m-4 1h8v
 
 def off_plot(marks, events, limit):
     """Computed minus recorded range of the marks that got a result, with the limit where it is near and the other records below."""
-    frame, worst = Frame(marks, events, limit), worst_of(marks)
-    parts = [*frame.scale(), *frame.clock(), label(LEFT - 6, TOP - 10, "m", "end")]
-    parts += [line(LEFT, frame.up(off), WIDTH - RIGHT, frame.up(off), "limit") for off in frame.limits]
+    frame, sheet, worst = Frame(marks, events, limit), Sheet(), worst_of(marks)
+    frame.scale(sheet)
+    frame.clock(sheet)
+    sheet.label(LEFT - 6, TOP - 10, "m", "end")
+    for off in frame.limits:
+        sheet.stroke("limit", LEFT, frame.up(off), WIDTH - RIGHT, frame.up(off))
     if frame.limits:
-        parts.append(label(WIDTH - RIGHT, TOP - 10, f"- - limit {limit:g} m", "end", "red"))
-    if len(frame.events) <= EVENTS:
-        parts += [f'<path class="{event.what}" d="{SIGNS[event.what].format(x=frame.across(event.time()), y=HEIGHT - FOOT + 28)}"/>' for event in frame.events]
-    parts.append(dots(frame, [mark for mark in marks if abs(mark.off) <= limit], "marks", dash))
-    parts.append(dots(frame, [mark for mark in marks if not abs(mark.off) <= limit], "over", block))
-    parts.append(f'<circle class="worst" cx="{frame.across(worst.time()):.1f}" cy="{frame.up(worst.off):.1f}" r="7"/>')
-    return svg(WIDTH, HEIGHT, f"computed minus recorded range over local time; worst mark {places(worst.off)} m", parts)
+        sheet.label(WIDTH - RIGHT, TOP - 10, f"- - limit {limit:g} m", "end", "red")
+    for event in frame.events if len(frame.events) <= EVENTS else ():
+        sheet.draw(event.what, SIGNS[event.what].format(x=frame.across(event.time()), y=HEIGHT - FOOT + 28))
+    sheet.draw("marks", dots(frame, [mark for mark in marks if abs(mark.off) <= limit], dash))
+    sheet.draw("over", dots(frame, [mark for mark in marks if not abs(mark.off) <= limit], block))
+    sheet.circle("worst", frame.across(worst.time()), frame.up(worst.off), 7)
+    return sheet.svg(WIDTH, HEIGHT, f"computed minus recorded range over local time; worst mark {places(worst.off)} m")
 
 
 # ---- orbits
@@ -228,13 +241,18 @@ def orbit_plot(flights):
     orbits = [[plane.flat(point) for point in flight.points()] for flight in flights]
     ends = [plane.flat(flight.at) for flight in flights]
     plane.fit([point for orbit in (*orbits, ends) for point in orbit])
-    parts = [f'<circle class="body" cx="{SIDE / 2}" cy="{SIDE / 2}" r="{plane.disc:.1f}"/>', label(SIDE / 2, SIDE / 2 + 5, flights[0].body)]
+    sheet, middle = Sheet(), SIDE / 2
+    sheet.draw("body", "M{0:.1f} {2:.1f}a{1:.1f} {1:.1f} 0 1 0 {3:.1f} 0a{1:.1f} {1:.1f} 0 1 0 -{3:.1f} 0z".format(middle - plane.disc, plane.disc, middle, 2 * plane.disc))
+    sheet.label(middle, middle + 5, flights[0].body)
     for flight, orbit, end in zip(flights, orbits, ends):
-        drawn = "L".join("{:.1f} {:.1f}".format(*plane.put(point)) for point in orbit)
         (x, y), (a, b) = plane.put(end), plane.put(end, 14 if flight.vehicle == "0" else -14)
-        sign = f'<circle class="v0" cx="{x:.1f}" cy="{y:.1f}" r="5"/>' if flight.vehicle == "0" else f'<path class="at v1" d="M{x:.1f} {y:.1f}m-6 -6h12v12h-12z"/>'
-        parts += [f'<path class="orbit v{flight.vehicle}" d="M{drawn}"/>', sign, label(a, b + 5, flight.vehicle)]
-    return svg(SIDE, SIDE, f"orbits about the {flights[0].body} at the end", parts), plane.times()
+        sheet.draw(f"orbit v{flight.vehicle}", "M" + "L".join("{:.1f} {:.1f}".format(*plane.put(point)) for point in orbit))
+        if flight.vehicle == "0":
+            sheet.circle("v0", x, y, 5)
+        else:
+            sheet.draw("at v1", f"M{x:.1f} {y:.1f}m-6 -6h12v12h-12z")
+        sheet.label(a, b + 5, flight.vehicle)
+    return sheet.svg(SIDE, SIDE, f"orbits about the {flights[0].body} at the end"), plane.times()
 
 
 def orbit_plots(vehicles, mu):
