@@ -745,11 +745,12 @@ SEEN = """(() => {
     return {
         wide: document.documentElement.scrollWidth,
         headline: document.querySelector('.big').innerText,
+        heads: [...document.querySelectorAll('#sessions thead th')].map(one => one.textContent).join(', '),
         sessions: [...document.querySelectorAll('#sessions tbody tr')].map(cells),
         cabins: [...document.querySelectorAll('#days table')].map(table => [...table.tHead.rows[0].cells].slice(1).map(cell => cell.textContent)),
         days: [...document.querySelectorAll('#days tbody tr')].map(row => ({day: row.cells[0].innerText, counts: [...row.cells].slice(1).map(counts)})),
         plots: [...document.querySelectorAll('#pictures figure:not(.o) svg')].map(plot => ({...box(plot), name: plot.closest('details').querySelector('h3').innerText,
-            marks: [...plot.querySelectorAll('.marks, .over')].map(one => one.getAttribute('d').split('M').length - 1).reduce((a, b) => a + b, 0),
+            zero: plot.querySelector('.axis').getPointAtLength(0).y, dots: plot.querySelector('.marks')?.getAttribute('d') ?? '', blocks: plot.querySelector('.over')?.getAttribute('d') ?? '',
             inside: [...plot.querySelectorAll('path, circle')].every(one => { const b = one.getBBox(), v = plot.viewBox.baseVal; return b.x >= 0 && b.y >= 0 && b.x + b.width <= v.width && b.y + b.height <= v.height; })})),
         orbits: [...document.querySelectorAll('#pictures figure.o svg')].map(box),
     };
@@ -760,6 +761,7 @@ def check_seen(results, seen, width):
     """What a browser shows is report.json's: every session's row, what failed first, the counts a cabin and a day, and the pictures of what failed."""
     wanted, rows = told(results), seen["sessions"]
     assert seen["wide"] <= width, f"the page is {seen['wide']} wide in a window of {width}"
+    assert seen["heads"] == "cabin, day, session, verdict, reason, records, marks, worst m, local time", seen["heads"]
     assert [row[0]["top"] for row in rows] == sorted(row[0]["top"] for row in rows)
     order = {"failed": 0, "broken": 1, "passed": 2}
     expected = sorted(wanted["sessions"], key=lambda one: (order[one["verdict"]], one["day"] is None, -(one["day"] or 0), one["cabin"], one["name"]))
@@ -778,10 +780,27 @@ def check_seen(results, seen, width):
         own[one["verdict"]] = own.get(one["verdict"], 0) + 1
     assert {row["day"]: row["counts"] for row in seen["days"]} == days and len(seen["days"]) == len(days), seen["days"]
     drawn = {f"{one['cabin']}/{one['name']}": one for one in expected if one["marks"]}
-    assert {plot["name"]: plot["marks"] for plot in seen["plots"]} == {name: one["marks"] for name, one in drawn.items()}
+    assert {plot["name"] for plot in seen["plots"]} == set(drawn)
     for plot in seen["plots"]:
-        failed = drawn[plot["name"]]["verdict"] == "failed"
+        one = drawn[plot["name"]]
+        failed = one["verdict"] == "failed"
         assert plot["shown"] == failed and plot["inside"] and (not failed or 0 <= plot["left"] and plot["right"] <= width), plot
+        check_points(plot, (results / one["cabin"] / f"day-{one['day']}" / f"{one['name']}.txt").read_text())
+
+
+def check_points(plot, text):
+    """Every mark of a result is a point, its place by its time and its off, a square where it is over the limit."""
+    wanted = sorted((int(day) * DAY + int(cs), float(off)) for day, cs, off in re.findall(r"^(\S+) (\S+) \S mark off (\S+) bits", text, re.M))
+    dots = [(float(x), float(y)) for x, y in re.findall(r"M([\d.]+) ([\d.]+)v", plot["dots"])]
+    blocks = [(float(x) + 3, float(y) + 3) for x, y in re.findall(r"M([\d.]+) ([\d.]+)h", plot["blocks"])]
+    points = sorted(dots + blocks)
+    assert len(blocks) == sum(abs(off) > 100 for _, off in wanted), plot
+    worst = max(range(len(wanted)), key=lambda k: abs(wanted[k][1]))
+    slope, span = (points[worst][1] - plot["zero"]) / wanted[worst][1], wanted[-1][0] - wanted[0][0]
+    assert slope < 0, "what is too far is below"
+    for (x, y), (time, off) in zip(points, wanted, strict=True):
+        assert abs(y - plot["zero"] - slope * off) < 0.2, (plot, off)
+        assert not span or abs(x - points[0][0] - (points[-1][0] - points[0][0]) * (time - wanted[0][0]) / span) < 0.2, (plot, time)
 
 
 def refused(check, *words):
