@@ -12,7 +12,8 @@ import subprocess
 import sys
 import time
 
-SHOWN = 10
+from differences import Differences
+
 LONGEST = 800  # with what is put behind it, a line stays within the desk's 1,000 bytes
 
 
@@ -36,22 +37,10 @@ def fresh(second, count, seed):
     return alone[-count:]
 
 
-class Differences:
-    def __init__(self):
-        self.count = 0
-
-    def look(self, request, what, one, other):
-        if one == other:
-            return
-        self.count += 1
-        if self.count <= SHOWN:
-            print(f"{request}\n  {what[0]}: {one}\n  {what[1]}: {other}")
-
-
 def asked_of_both(found, desks, lines):
     ours, second = (answers(desk, lines) for desk in desks)
     for line, one, other in zip(lines, ours, second):
-        found.look(line, ("ours", "the second program's"), one, other)
+        found.look(line, one, other)
     return second
 
 
@@ -80,9 +69,8 @@ def main(ours, second, count=2000, seed=None):
     requests = list(dict.fromkeys(fresh(second, int(count), seed)))
     ends, stops = run_by_parts(found, desks, requests, dice)
     for request, through in zip(requests, asked_of_both(found, desks, requests)):
-        found.look(request, ("by parts", "run through"), ends[request], through)
-    print(f"{len(requests)} solves, stopped {stops} times and gone on with, seed {seed}: {found.count} differences")
-    return 1 if found.count else 0
+        found.look(request, ends[request], through, ("by parts", "run through"))
+    return found.told(f"{len(requests)} solves, stopped {stops} times and gone on with, seed {seed}")
 
 
 if __name__ == "__main__":

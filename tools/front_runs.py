@@ -101,6 +101,8 @@ class Room:
         (self.stub / "rt").write_text(KIT.replace("@DOC@", doc))
         (self.stub / "rt").chmod(0o755)
         shutil.copy(program("listing"), self.stub / "listing")
+        for name in ("chromium", "parallel"):
+            (self.stub / name).symlink_to("/bin/true")
         self.env = dict(os.environ, PATH=f"{self.stub}:{os.environ['PATH']}", STUB=str(self.stub), CABIN_BUILD="yes", CABIN_LOCKED="")
         self.top.chmod(0o755)
         return self
@@ -846,14 +848,22 @@ def _():
 
 # ---- the gate
 
-def gate(room, ci, fails=(), **more):
-    """The status and the lines of ./cabin test over parts that pass, but for those that fail."""
+def gate(room, ci, fails=(), lacks=(), **more):
+    """The status and the lines of ./cabin test over parts that pass, but for those that fail or are not run."""
     (room.stub / "ci").write_text(ci)
     for name in re.findall(r"python3 tools/(\w+\.py)", (ROOT / "tools" / "test.sh").read_text()):
-        room.write(f"tools/{name}", f"import sys; print('{name} was made'); sys.exit({int(name in fails)})\n")
+        room.write(f"tools/{name}", f"import sys; print('{name} was made'); sys.exit(77 if sys.argv[-1] in {lacks!r} else {int(name in fails)})\n")
     room.write("tools/compare.sh", f'echo "compare $1 was made, build $CABIN_BUILD"; case " {" ".join(fails)} " in *" $1 "*) exit 1 ;; esac\n')
     status, wrote, _said = room.front("test", **more)
     return status, (wrote or b"").decode().split("\n")[:-1]
+
+
+def left_out(room, made):
+    """A part that is not run is named, and counts neither as passed nor as failed."""
+    status, lines = gate(room, 'echo "40 passed, 0 failed"\n', lacks=("chromium",))
+    assert (status, lines[-1]) == (0, f"{40 + made} passed, 0 failed") and "NOT RUN: the night run, with chromium" in lines, lines
+    status, lines = gate(room, 'echo "40 passed, 0 failed"\n', fails=("pages.py",), lacks=("chromium", "parallel"))
+    assert (status, lines[-1]) == (2, f"{38 + made} passed, 1 failed") and sum(line.startswith("NOT RUN: ") for line in lines) == 2, lines
 
 
 def parts(lines):
@@ -881,6 +891,7 @@ def _():
             assert any(line.startswith("FAILED: ") for line in lines), lines
         with open("/dev/full", "wb") as full:
             assert gate(room, 'echo "40 passed, 0 failed"\n', stdout=full)[0] == 2
+        left_out(room, made)
         room.env["PATH"] = "/usr/bin:/bin"
         status, lines = gate(room, "")
         assert (status, lines[-1]) == (2, "0 passed, 1 failed"), (status, lines)

@@ -1,5 +1,6 @@
 #!/usr/bin/env python3
-"""make_sample: writes the sample sessions, and what the programs listing, show and write are run on and must write.
+"""make_sample: writes the sample sessions, and what the programs listing, show and write are run on and must write. The burns of
+samples/rendezvous.bin are the desk's answers (rendezvous.py).
 
   tools/make_sample.py           write the files
   tools/make_sample.py --check   say which differ from what would be written, and exit 1 if one does
@@ -10,9 +11,12 @@ Run it from the project's root.
 """
 import fractions
 import math
+import operator
 import pathlib
 import struct
 import sys
+
+import rendezvous as plan
 
 STATE, BURN, MARK, OFFSET = 1, 2, 3, 4
 LENGTH = {STATE: 62, BURN: 38, MARK: 30, OFFSET: 8}
@@ -167,69 +171,64 @@ def circling(radius, angle):
 
 
 def flown(state, cs):
-    """A state some cs later: the universal variable by Newton's rule."""
-    x, y, _, u, v, _ = state
-    r, sigma, root = math.hypot(x, y), x * u + y * v, math.sqrt(MU_MOON)
-    alpha = 2 / r - (u * u + v * v) / MU_MOON
+    """A state about the moon some cs later: the universal variable by Newton's rule."""
+    if cs == 0:
+        return state
+    at, speed, root = state[:3], state[3:], math.sqrt(MU_MOON)
+    r, sigma = math.hypot(*at), sum(map(operator.mul, at, speed)) / root
+    alpha = 2 / r - sum(u * u for u in speed) / MU_MOON
     chi = root * cs * alpha
     for _ in range(60):
         psi = chi * chi * alpha
         c, s = (1 - math.cos(math.sqrt(psi))) / psi, (math.sqrt(psi) - math.sin(math.sqrt(psi))) / math.sqrt(psi)**3
-        now = chi * chi * c + sigma / root * chi * (1 - psi * s) + r * (1 - psi * c)
-        chi += (root * cs - chi**3 * s - sigma / root * chi * chi * c - r * chi * (1 - psi * s)) / now
+        now = chi * chi * c + sigma * chi * (1 - psi * s) + r * (1 - psi * c)
+        chi += (root * cs - chi**3 * s - sigma * chi * chi * c - r * chi * (1 - psi * s)) / now
     f, g = 1 - chi * chi / r * c, cs - chi**3 / root * s
-    a, b = f * x + g * u, f * y + g * v
-    far = math.hypot(a, b)
+    there = [f * x + g * u for x, u in zip(at, speed)]
+    far = math.hypot(*there)
     df, dg = root / (far * r) * chi * (psi * s - 1), 1 - chi * chi / far * c
-    return a, b, 0.0, df * x + dg * u, df * y + dg * v, 0.0
+    return *there, *(df * x + dg * u for x, u in zip(at, speed))
+
+
+# behind which burn and how many minutes, and by how many metres the range is then measured wrongly
+MARKS = (0, 80, 3.0), (0, 100, -5.0), (1, 20, 2.5), (1, 40, -1.5), (2, 15, 4.0), (2, 30, -3.5), (3, 12, 2.0), (3, 24, -1.0), (3, 36, 0.75), (4, 10, -0.5)
 
 
 def rendezvous():
-    """Vehicle 1 comes up from a low orbit about the moon to vehicle 0: a height adjustment, the constant-height burn half a turn
-    later, and the intercept when the lead is right; marks between them, a few metres off. Then a burn that is too large, a mark
-    back in time, and vehicle 0 set about the earth."""
-    high, low, mid = MOON + 111_120.0, MOON + 18_520.0, MOON + 83_340.0
-    period = 2 * math.pi * math.sqrt(high**3 / MU_MOON)
-    half = lambda a, b: math.pi * math.sqrt(((a + b) / 2)**3 / MU_MOON)
-    push = lambda a, b: math.sqrt(2 * MU_MOON / a - 2 * MU_MOON / (a + b)) - math.sqrt(MU_MOON / a)
-    rate = lambda a: math.sqrt(MU_MOON / a**3)
-    first = 30 * MINUTE
-    second = first + round(half(low, mid))
-    lead = math.pi * (1 - half(mid, high) / (period / 2))
-    third = second + 40 * MINUTE
-    last = third + round(half(mid, high))
-    angle = rate(low) * first + math.pi + rate(mid) * (third - second)
-    target, chaser = circling(high, angle + lead - rate(high) * third), circling(low, 0.0)
-    parts = [record(STATE, 0, 1, 0, *target), record(STATE, 1, 1, 0, *chaser)]
-    time, at = 0, chaser
-
-    def mark(now, noise):
-        a, b = flown(target, now), flown(at, now - time)
-        parts.append(record(MARK, 1, 0, now, math.dist(a[:3], b[:3]) + noise, 0.0))
-
-    def burn(now, speed):
-        nonlocal time, at
-        here = flown(at, now - time)
-        size = math.hypot(here[3], here[4])
-        change = speed * here[3] / size, speed * here[4] / size
-        parts.append(record(BURN, 1, 0, now, *change, 0.0))
-        at, time = (*here[:3], here[3] + change[0], here[4] + change[1], 0.0), now
-
-    mark(15 * MINUTE, 3.0)
-    burn(first, push(low, mid))
-    mark(first + 20 * MINUTE, -5.0)
-    burn(second, -push(mid, low))
-    mark(second + 20 * MINUTE, 2.5)
-    burn(third, push(mid, high))
-    mark(third + 25 * MINUTE, -1.5)
-    mark(last, 4.0)
-    parts += [
-        record(BURN, 1, 0, last, 130.0, 0.0, 0.0),
-        record(MARK, 0, 0, last - 10 * MINUTE, 9_000.0, 0.0),
-        record(STATE, 0, 0, last, 6_700_000.0, 0.0, 0.0, 0.0, 77.1, 0.0),
-        record(MARK, 0, 0, last, 0.0, 0.0),
-    ]
+    """The flight of rendezvous.py, with marks where the moon does not stand between the two: the range, to a centimetre, and its rate by the
+    orbits of this script, which knows nothing of the desk's."""
+    with plan.Desk() as desk:
+        _, passive, active, burns = plan.planned(desk)
+    parts = [offset(plan.OFFSET), record(STATE, 0, 1, passive.time, *passive.r, *passive.v), record(STATE, 1, 1, active.time, *active.r, *active.v)]
+    target, chaser, since = (*passive.r, *passive.v), (*active.r, *active.v), active.time
+    for k, burn in enumerate(burns):
+        here = flown(chaser, burn.time - since)
+        chaser, since = (*here[:3], *map(operator.add, here[3:], burn.change)), burn.time
+        parts.append(record(BURN, 1, 0, burn.time, *burn.change))
+        for time, noise in ((burn.time + minutes * MINUTE, noise) for behind, minutes, noise in MARKS if behind == k):
+            way = list(map(operator.sub, flown(chaser, time - since), flown(target, time - passive.time)))
+            far = math.hypot(*way[:3])
+            rate = sum(map(operator.mul, way[:3], way[3:])) / far
+            parts.append(record(MARK, 1, 0, time, round(far + noise, 2), round(rate, 6)))
     return b''.join(parts)
+
+
+def slips():
+    """What a replay refuses, and goes on behind: a burn of a vehicle that is not set, one that is too large, a mark with a range that is far off,
+    ten minutes back in time; vehicle 0 set about the earth, so that the next mark has no range, and a burn 32 days later."""
+    high, low = circling(MOON + 111_120.0, 0.02), circling(MOON + 83_340.0, 0.0)
+    far = math.dist(flown(high, 20 * MINUTE)[:3], flown(low, 20 * MINUTE)[:3])
+    return b''.join([
+        record(BURN, 1, 0, 0, 0.0, 0.125, 0.0),
+        record(STATE, 0, 1, 0, *high),
+        record(STATE, 1, 1, 0, *low),
+        record(BURN, 1, 0, 20 * MINUTE, 0.0, 130.0, 0.0),
+        record(MARK, 1, 0, 20 * MINUTE, round(far - 1.5, 2), 0.0),
+        record(MARK, 0, 0, 10 * MINUTE, 9_000.0, 0.0),
+        record(STATE, 0, 0, 20 * MINUTE, 6_700_000.0, 0.0, 0.0, 0.0, 77.1, 0.0),
+        record(MARK, 0, 0, 20 * MINUTE, 0.0, 0.0),
+        record(BURN, 1, 0, 32 * DAY, 0.0, 0.125, 0.0),
+    ])
 
 
 def low():
@@ -251,6 +250,7 @@ def files():
         'samples/damaged.bin': damaged(),
         'samples/night.bin': night(),
         'samples/rendezvous.bin': rendezvous(),
+        'samples/slips.bin': slips(),
         'samples/low.bin': low(),
         'crates/refly/data/session': refused,
         'crates/listing/data/session': refused,

@@ -2,12 +2,15 @@
 """night_runs: the night run, on nine small cabins: what it says of good, failing, damaged, empty and unreadable sessions, under
 which day it files them, and that it can be killed, started twice, starved of disk and time without losing or repeating anything.
 
-  tools/night_runs.py                  a part of the gate
+  tools/night_runs.py                  every case
+  tools/night_runs.py --with NEED      the cases that need something of the machine: nothing, chromium, parallel, systemd-analyze, mount
   tools/night_runs.py WORDS            the cases whose name has the words
   tools/night_runs.py --year [NIGHTS]  nine cabins, 365 nights, some sessions damaged, the run killed at random points
+  tools/night_runs.py --load [COUNT]   nine cabins with 100 sessions of 2,000 records each, timed, and again with nothing left
 
-What a session must get is stated by who makes it here; its lines are those of `./cabin replay`. The seed is printed, and
-CABIN_SEED=N repeats a run. Run it from the project's root."""
+What a session must get is stated by who makes it here; its lines are those of `./cabin replay`. A case whose need is not
+there is not run, and counted as such. The seed is printed, and CABIN_SEED=N repeats a run. Ends with 0 where all passed, 1 where one
+failed, 77 where none failed and one was not run. Run it from the project's root."""
 import contextlib
 import functools
 import html.parser
@@ -27,6 +30,9 @@ import tempfile
 import time
 
 sys.path.insert(0, str(pathlib.Path(__file__).parent))
+from browser import Browser
+from night import plots
+from night.verdict import Event, Mark
 from make_sample import BURN, DAY, HOUR, MARK, MINUTE, MOON, STATE, circling, flown, offset, record
 from settings import record as version
 
@@ -35,12 +41,28 @@ NIGHT = ROOT / "tools" / "night.py"
 SEED = int(os.environ.get("CABIN_SEED", time.time()))
 DICE = random.Random(SEED)
 NOBODY = 65534
-NOT_RUN = []
 CASES = []
 
 
-def case(name):
-    return lambda function: CASES.append((name, function)) or function
+class NotRun(Exception):
+    """Why a case cannot be run on this machine."""
+
+
+def starts(*words):
+    return shutil.which(words[0]) and subprocess.run(words, stdin=subprocess.DEVNULL, capture_output=True).returncode == 0
+
+
+NEEDS = {  # what a case may need of the machine: whether it is there
+    "nothing": lambda: True,
+    "chromium": lambda: starts("chromium", "--version"),
+    "parallel": lambda: starts("parallel", "--version"),
+    "systemd-analyze": lambda: starts("systemd-analyze", "--version"),
+    "mount": lambda: os.getuid() == 0 and starts("unshare", "-m", "true"),
+}
+
+
+def case(name, need="nothing"):
+    return lambda function: CASES.append((name, need, function)) or function
 
 
 # ---- sessions
@@ -128,7 +150,7 @@ def start(*words, refly=None, **more):
 def night(*words, refly=None, **more):
     """The status, what it wrote and what it said."""
     run = start(*words, refly=refly, **more)
-    wrote, said = run.communicate(timeout=300)
+    wrote, said = run.communicate(timeout=900)
     return run.returncode, wrote, said
 
 
@@ -297,7 +319,7 @@ def check_page(results):
         assert row[7] == "" if one["worst"] is None else abs(float(row[7]) - one["worst"]) <= 1e-6, row
     order = [row[3] for row in rows]
     assert order == sorted(order, key=["failed", "broken", "passed"].index), order
-    assert page.pictures >= sum(one["marks"] > 0 for one in wanted.values())
+    assert page.pictures >= sum(row[6] != "0" for row in rows[:1000]), "a session with marks has no picture"
 
 
 @case("all passed: 0; a folder with no session: 0, and empty reports; a cabin with none is shown")
@@ -353,6 +375,22 @@ def _():
         with open("/dev/full", "w") as full:
             run = subprocess.run([sys.executable, NIGHT, folder, "--out", results], stdout=full, stderr=subprocess.PIPE, text=True, env=environment())
         assert run.returncode == 2 and "standard output" in run.stderr, run
+
+
+@case("numbers at their ends: each gets its picture or none, and the page stands")
+def _():
+    spreads = (0.0,), (-0.0, 5e-324), (1.7e308, -1.7e308), (1e-9, 3.0), (99.9, -100.1), tuple(range(-700, 700))
+    for offs in spreads:
+        for limit in (0.0, 5e-324, 100.0, 1.7e308):
+            for step in (0, 1, 6_000, 8_640_000 * 10**6):
+                marks = [Mark(k, *divmod(k * step - 5, DAY), float(off)) for k, off in enumerate(offs)]
+                drawn = plots.off_plot(marks, [Event(0, 7, "burn"), Event(10**8, 3, "refused")], limit)
+                assert not re.search(r"nan|inf|\de", re.sub(r"<text.*?</text>|aria-label=\".*?\"", "", drawn)), drawn
+    with room() as (folder, results):
+        far = [record(STATE, k, 1, 0, *(x * sign for sign in (1.0, -1.0, 1.0, 0.5, 1.0, 1.0))) for k, x in enumerate((1.7e308, 5e-324))]
+        made(folder, {"a/far": b"".join(far), "a/still": record(STATE, 0, 0, 0, *[0.0] * 6) + record(STATE, 1, 1, 2**53, 3e6, 0.0, 0.0, 0.0, 1e-300, 0.0), "a/mark": session(1, 0, None, (), record(MARK, 0, 0, DAY, 1.7e308, 0.0) + record(MARK, 0, 0, DAY, -1.7e308, 0.0))})
+        hold(night(folder, "--out", results), 1, "2 passed, 1 failed")
+        check_page(results)
 
 
 @case("names: newlines and bytes that are no text are run and reported; a results folder inside the folder is no cabin")
@@ -587,32 +625,28 @@ def _():
         after = texts(results)
         assert "b/day-2/more.txt" in after and all(after[name] == data for name, data in before.items() if name != "report.txt"), "a report by halves"
         hold(night(folder, "--out", results), 0, "4 passed", "no session is left")
-        if os.getuid() == 0 and subprocess.run(["unshare", "-m", "true"], capture_output=True).returncode == 0:
-            full_disk(folder, folder.parent / "disk")
-        else:
-            NOT_RUN.append("a full disk: no file system can be mounted here")
 
 
-def full_disk(folder, disk):
-    """A real disk with too little room, then enough."""
-    disk.mkdir()
-    made(folder, {f"c/{k}": session(1, k, None, (1.0,) * 300) for k in range(12)})
-    script = ('mount -t tmpfs -o size=200k none "$1" || exit 77; "$2" "$3" "$4" --out "$1/results"; echo "first $?"; '
-              'ls "$1/results/c/day-1" | wc -l; find "$1" -name ".night-*"; mount -o remount,size=20m "$1"; "$2" "$3" "$4" --out "$1/results"; echo "then $?"')
-    ran = subprocess.run(["unshare", "-m", "bash", "-c", script, "x", disk, sys.executable, NIGHT, folder], capture_output=True, text=True, env=environment())
-    if ran.returncode == 77:
-        return NOT_RUN.append("a full disk: no file system can be mounted here")
-    lines = ran.stdout.split("\n")
-    assert lines[0] == "first 2" and 0 < int(lines[1]) < 12 and "16 passed" in lines[2] and lines[3] == "then 0", ran
-    assert "No space left" in ran.stderr, ran
-    return None
+@case("a disk of its own with too little room, then enough: 2, and a rerun goes on", "mount")
+def _():
+    with room() as (folder, results):
+        made(folder, {f"c/{k}": session(1, k, None, (1.0,) * 300) for k in range(12)})
+        results.mkdir()
+        script = ('mount -t tmpfs -o size=200k none "$1" || exit 77; "$2" "$3" "$4" --out "$1/results"; echo "first $?"; '
+                  'ls "$1/results/c/day-1" | wc -l; find "$1" -name ".night-*"; mount -o remount,size=20m "$1"; "$2" "$3" "$4" --out "$1/results"; echo "then $?"')
+        ran = subprocess.run(["unshare", "-m", "bash", "-c", script, "x", results, sys.executable, NIGHT, folder], capture_output=True, text=True, env=environment())
+        if ran.returncode == 77:
+            raise NotRun("no file system can be mounted here")
+        lines = ran.stdout.split("\n")
+        assert lines[0] == "first 2" and 0 < int(lines[1]) < 12 and "12 passed" in lines[2] and lines[3] == "then 0", ran
+        assert "No space left" in ran.stderr, ran
 
 
 @case("a session and a cabin that may not be read: broken, and 2 for the cabin, with the others run")
 def _():
     python = "/usr/bin/python3"
     if os.getuid() == 0 and not os.path.exists(python):
-        return NOT_RUN.append("what may not be read: no python3 that all may use")
+        raise NotRun("there is no python3 that all may use")
     with room() as (folder, results):
         made(folder, {"a/secret": session(1, 0), "a/good": session(1, 0), "b/x": session(1, 0)})
         (folder / "a" / "secret.bin").chmod(0)
@@ -635,27 +669,38 @@ def _():
         (folder / "b").chmod(0)
         ran = run()
         hold((ran.returncode, ran.stdout, ran.stderr), 2, "1 broken", "b cannot be read: its sessions are not run")
-    return None
 
 
 # ---- one by one
 
-@case("--list, --one and --report, two at once, make what a whole run makes; so does GNU parallel")
+def spread(folder, results, script):
+    """The page's lines for more machines, on this one, make what a plain run makes."""
+    nine(folder)
+    hold(night(folder, "--out", results), 1)
+    other = folder.parent / "other"
+    ran = subprocess.run(["bash", "-c", here(script, folder, other)], capture_output=True, text=True)
+    assert ran.returncode == 1 and "cabin-5/cut: failed refused 11 at 184" in ran.stdout, ran
+    assert len(re.findall(r"^cabin-\d/.*: (?:passed|failed|broken)", ran.stdout, re.M)) == len(NINE) + len(UNREAD), ran
+    assert texts(other) == texts(results)
+
+
+def here(text, folder, results):
+    """A page's text with the paths of this place."""
+    return text.replace("/srv/cabin", str(ROOT)).replace("/srv/sessions", str(folder)).replace("/srv/results", str(results))
+
+
+@case("the page's line with GNU parallel, two jobs on this machine, and --report: what a plain run makes", "parallel")
 def _():
     with room() as (folder, results):
-        nine(folder)
-        hold(night(folder, "--out", results), 1)
-        lines = on_page("With GNU parallel").replace(":,bench-2,bench-3", ":").replace("/srv/cabin", str(ROOT)).replace("/srv/sessions", str(folder))
-        spread = {"xargs": re.sub(r"parallel .* --workdir \S+", "xargs -d '\\\\n' -P 2 -I {}", lines)}
-        if shutil.which("parallel"):
-            spread["parallel"] = lines
-        else:
-            NOT_RUN.append("GNU parallel: it is not installed; xargs -P 2 was run in its place")
-        for name, script in spread.items():
-            other = folder.parent / name
-            ran = subprocess.run(["bash", "-c", script.replace("/srv/results", str(other))], capture_output=True, text=True)
-            assert ran.returncode == 1 and "cabin-5/cut: failed refused 11 at 184" in ran.stdout, ran
-            assert texts(other) == texts(results), name
+        lines = on_page("With GNU parallel")
+        assert "parallel --jobs 2 --sshlogin :,bench-2,bench-3 " in lines, lines
+        spread(folder, results, lines.replace(":,bench-2,bench-3", ":"))
+
+
+@case("--list, --one and --report, two at once, make what a whole run makes")
+def _():
+    with room() as (folder, results):
+        spread(folder, results, re.sub(r"parallel .* --workdir \S+", "xargs -d '\\\\n' -P 2 -I {}", on_page("With GNU parallel")))
         hold(night(folder, "--out", results, "--one", "cabin-1/good"), 0, "^cabin-1/good: passed\n$")
         hold(night(folder, "--out", results, "--one", "cabin-3/off"), 1, "^cabin-3/off: failed record 4 off")
         hold(night(folder, "--out", results, "--one", "cabin-9/a pipe"), 1, "broken it cannot be read")
@@ -669,42 +714,145 @@ def on_page(ahead):
     return re.sub(r"^    ", "", block, flags=re.M)
 
 
-@case("the page's cron line does its work, and its units are well-formed")
+@case("the page's cron line does its work")
 def _():
     with room() as (folder, results):
         made(folder, {"a/x": session(1, 0)})
-        here = lambda text: text.replace("/srv/cabin", str(ROOT)).replace("/srv/sessions", str(folder)).replace("/srv/results", str(results))
-        path, line = here(on_page("With cron,")).strip("\n").split("\n")
+        path, line = here(on_page("With cron,"), folder, results).strip("\n").split("\n")
         fields = line.split(" ", 5)
         assert fields[:5] == ["0", "20-23,0-5", "*", "*", "*"]
         ran = subprocess.run(["env", "-i", path, f"HOME={folder.parent}", "/bin/sh", "-c", fields[5]], capture_output=True, text=True)
         assert ran.returncode == 0 and "1 passed" in pathlib.Path(f"{results}.log").read_text(), ran
-        if not shutil.which("systemd-analyze"):
-            return NOT_RUN.append("the page's units: no systemd-analyze here")
-        units = {"cabin-night.service": "cabin-night.service`:", "cabin-night.timer": "cabin-night.timer`:"}
-        for name, ahead in units.items():
-            (folder.parent / name).write_text(here(on_page(ahead)).replace("User=cabin", "User=root"))
-        ran = subprocess.run(["systemd-analyze", "verify", "--man=no", *(folder.parent / name for name in units)], capture_output=True, text=True)
+
+
+@case("the page's units are well-formed", "systemd-analyze")
+def _():
+    with room() as (folder, results):
+        units = [folder.parent / "cabin-night.service", folder.parent / "cabin-night.timer"]
+        for unit in units:
+            unit.write_text(here(on_page(f"{unit.name}`:"), folder, results).replace("User=cabin", "User=root"))
+        ran = subprocess.run(["systemd-analyze", "verify", "--man=no", *units], capture_output=True, text=True)
         wrong = [line for line in ran.stderr.split("\n") if "cabin-night" in line]
         assert ran.returncode == 0 and not wrong, ran
-    return None
 
 
-@case("report.html in a real browser: the table is report.json's, and nothing is fetched")
+# ---- the page in a browser
+
+SEEN = """(() => {
+    const box = one => { const r = one.getBoundingClientRect(); return {left: r.left, right: r.right, top: r.top + scrollY, shown: one.checkVisibility() && r.width > 0 && r.height > 0}; };
+    const cells = row => [...row.cells].map(cell => ({text: cell.innerText.trim(), ...box(cell)}));
+    const counts = cell => Object.fromEntries([...cell.querySelectorAll('span')].map(one => [one.className, parseInt(one.innerText.replace(/[^0-9]/g, ''))]));
+    return {
+        wide: document.documentElement.scrollWidth,
+        headline: document.querySelector('.big').innerText,
+        heads: [...document.querySelectorAll('#sessions thead th')].map(one => one.textContent).join(', '),
+        sessions: [...document.querySelectorAll('#sessions tbody tr')].map(cells),
+        cabins: [...document.querySelectorAll('#days table')].map(table => [...table.tHead.rows[0].cells].slice(1).map(cell => cell.textContent)),
+        days: [...document.querySelectorAll('#days tbody tr')].map(row => ({day: row.cells[0].innerText, counts: [...row.cells].slice(1).map(counts)})),
+        plots: [...document.querySelectorAll('#pictures figure:not(.o) svg')].map(plot => ({...box(plot), name: plot.closest('details').querySelector('h3').innerText,
+            zero: plot.querySelector('.axis').getPointAtLength(0).y, dots: plot.querySelector('.marks')?.getAttribute('d') ?? '', blocks: plot.querySelector('.over')?.getAttribute('d') ?? '',
+            inside: [...plot.querySelectorAll('path, circle')].every(one => { const b = one.getBBox(), v = plot.viewBox.baseVal; return b.x >= 0 && b.y >= 0 && b.x + b.width <= v.width && b.y + b.height <= v.height; })})),
+        orbits: [...document.querySelectorAll('#pictures figure.o svg')].map(box),
+    };
+})()"""
+
+
+def check_seen(results, seen, width):
+    """What a browser shows is report.json's: every session's row, what failed first, the counts a cabin and a day, and the pictures of what failed."""
+    wanted, rows = told(results), seen["sessions"]
+    assert seen["wide"] <= width, f"the page is {seen['wide']} wide in a window of {width}"
+    assert seen["heads"] == "cabin, day, session, verdict, reason, records, marks, worst m, local time", seen["heads"]
+    assert [row[0]["top"] for row in rows] == sorted(row[0]["top"] for row in rows)
+    order = {"failed": 0, "broken": 1, "passed": 2}
+    expected = sorted(wanted["sessions"], key=lambda one: (order[one["verdict"]], one["day"] is None, -(one["day"] or 0), one["cabin"], one["name"]))
+    for row, one in zip(rows, expected, strict=True):
+        cabin, day, name, verdict, reason, records, marks, worst, _time = (cell["text"] for cell in row)
+        assert [cabin, day, name, verdict, reason, records, marks] == [one["cabin"], "none" if one["day"] is None else str(one["day"]), one["name"], one["verdict"], one["reason"], str(one["records"]), str(one["marks"])], (row, one)
+        assert worst == "" if one["worst"] is None else abs(float(worst) - one["worst"]) <= 1e-6, (row, one)
+        assert all(not cell["text"] or cell["shown"] and 0 <= cell["left"] and cell["right"] <= width for cell in row), row
+    sums = {verdict: sum(one["verdict"] == verdict for one in expected) for verdict in order}
+    assert seen["headline"] == f"{len(wanted['cabins'])} cabins, {len(expected)} sessions: {sums['passed']} passed, {sums['failed']} failed, {sums['broken']} broken", seen["headline"]
+    assert all(names == [one["cabin"] for one in wanted["cabins"]] for names in seen["cabins"]) and seen["cabins"]
+    days = {"all": [{verdict: one[verdict] for verdict in order if one[verdict]} for one in wanted["cabins"]]}
+    for one in expected:
+        row = days.setdefault("none" if one["day"] is None else str(one["day"]), [{} for _ in wanted["cabins"]])
+        own = row[seen["cabins"][0].index(one["cabin"])]
+        own[one["verdict"]] = own.get(one["verdict"], 0) + 1
+    assert {row["day"]: row["counts"] for row in seen["days"]} == days and len(seen["days"]) == len(days), seen["days"]
+    drawn = {f"{one['cabin']}/{one['name']}": one for one in expected if one["marks"]}
+    assert {plot["name"] for plot in seen["plots"]} == set(drawn)
+    for plot in seen["plots"]:
+        one = drawn[plot["name"]]
+        failed = one["verdict"] == "failed"
+        assert plot["shown"] == failed and plot["inside"] and (not failed or 0 <= plot["left"] and plot["right"] <= width), plot
+        check_points(plot, (results / one["cabin"] / f"day-{one['day']}" / f"{one['name']}.txt").read_text())
+
+
+def check_points(plot, text):
+    """Every mark of a result is a point, its place by its time and its off, a square where it is over the limit."""
+    wanted = sorted((int(day) * DAY + int(cs), float(off)) for day, cs, off in re.findall(r"^(\S+) (\S+) \S mark off (\S+) bits", text, re.M))
+    dots = [(float(x), float(y)) for x, y in re.findall(r"M([\d.]+) ([\d.]+)v", plot["dots"])]
+    blocks = [(float(x) + 3, float(y) + 3) for x, y in re.findall(r"M([\d.]+) ([\d.]+)h", plot["blocks"])]
+    points = sorted(dots + blocks)
+    assert len(blocks) == sum(abs(off) > 100 for _, off in wanted), plot
+    worst = max(range(len(wanted)), key=lambda k: abs(wanted[k][1]))
+    slope, span = (points[worst][1] - plot["zero"]) / wanted[worst][1], wanted[-1][0] - wanted[0][0]
+    assert slope < 0, "what is too far is below"
+    for (x, y), (time, off) in zip(points, wanted, strict=True):
+        assert abs(y - plot["zero"] - slope * off) < 0.2, (plot, off)
+        assert not span or abs(x - points[0][0] - (points[-1][0] - points[0][0]) * (time - wanted[0][0]) / span) < 0.2, (plot, time)
+
+
+def refused(check, *words):
+    try:
+        check(*words)
+    except AssertionError:
+        return True
+    return False
+
+
+@case("report.html in a real browser, on a phone, a desk and paper: what it shows is report.json's, and nothing is fetched", "chromium")
 def _():
-    if not shutil.which("chromium"):
-        return NOT_RUN.append("report.html in Chromium: it is not installed")
-    with room() as (folder, results):
+    with room() as (folder, results), tempfile.TemporaryDirectory() as profile, Browser(profile) as browser:
         nine(folder)
+        made(folder, {"cabin-1/rendezvous": (ROOT / "samples" / "rendezvous.bin").read_bytes(), "cabin-2/slips": (ROOT / "samples" / "slips.bin").read_bytes()})
         hold(night(folder, "--out", results), 1)
-        for width in (400, 1400):
-            log = folder.parent / f"net-{width}"
-            ran = subprocess.run(["chromium", "--headless=new", "--no-sandbox", "--disable-gpu", "--disable-background-networking", "--disable-component-update", "--no-first-run", f"--user-data-dir={folder.parent}/profile", f"--window-size={width},900", f"--log-net-log={log}", "--dump-dom", (results / "report.html").as_uri()], capture_output=True, text=True, timeout=120)
-            assert ran.returncode == 0 and len(ran.stdout) > 1000, ran.stderr[-500:]
-            (results / "report.html").write_text(ran.stdout)  # the page's own DOM, held as the file is
-            check_page(results)
-            assert not re.search(r'"url":"https?:', log.read_text(errors="replace")), "something was fetched"
-    return None
+        page = results / "report.html"
+        for width, media in ((390, "screen"), (1280, "screen"), (718, "print")):
+            browser.ask("Emulation.setEmulatedMedia", media=media)
+            browser.open(page.as_uri(), width, phone=width == 390)
+            seen = browser.value(SEEN)
+            check_seen(results, seen, width)
+            assert sum(orbit["shown"] for orbit in seen["orbits"]) >= 3, seen["orbits"]
+            assert browser.asked_for() == [page.as_uri()] and not browser.faults(), (browser.asked_for(), browser.faults())
+        assert browser.printed().startswith(b"%PDF-")
+        browser.ask("Emulation.setEmulatedMedia", media="screen")
+        check_way(browser, page)
+        check_checks(browser, results, page)
+
+
+def check_way(browser, page):
+    """A session's name leads to its pictures, though they are folded."""
+    browser.open(page.as_uri(), 390, phone=True)
+    last = "document.querySelector('#sessions tbody tr:last-child a')"
+    there = f"document.querySelector({last}.getAttribute('href')).checkVisibility()"
+    assert not browser.value(there), "it is not folded"
+    browser.value(f"{last}.click()")
+    wait_for(lambda: browser.value(there))
+
+
+def check_checks(browser, results, page):
+    """A page that says something else is noticed, and so is one that fetches something."""
+    whole, other = page.read_text(), page.with_name("other.html")
+    for one, instead in ((r'("worst m">\d*)\.\d', r"\g<1>."), (">failed</td>", ">passed</td>"), ('"reason">refused 11', '"reason">refused 12'), (r">\?3<", ">?2<"), (r"<td[^>]*>cabin-1</td>", '<td hidden>cabin-1</td>')):
+        changed, count = re.subn(one, instead, whole, count=1)
+        other.write_text(changed)
+        browser.open(other.as_uri(), 1280)
+        assert count and refused(check_seen, results, browser.value(SEEN), 1280), f"{instead} was not noticed"
+    outside = "http://outside.invalid/picture.png"
+    other.write_text(whole.replace("<h1>", f'<img src="{outside}"><h1>', 1))
+    browser.open(other.as_uri(), 1280)
+    assert browser.asked_for() == [other.as_uri(), outside], "what is fetched was not noticed"
 
 
 # ---- a year
@@ -733,28 +881,58 @@ def year(nights=365):
     return 0
 
 
+# ---- a load
+
+def load(count=100):
+    """Nine cabins with so many sessions of 2,000 records each, two at once."""
+    with room() as (folder, results):
+        noises = [DICE.gauss(0.0, 5.0) for _ in range(1998)]
+        for k in range(count):
+            made(folder, {f"cabin-{cabin}/{k}": session(k, cabin * HOUR, 120, DICE.sample(noises, 1998)) for cabin in range(1, 10)})
+        for words in ("all of them", "nothing left"):
+            began = time.monotonic()
+            hold(night(folder, "--out", results, "--jobs", 2), 0, f"{9 * count} passed, 0 failed")
+            print(f"{9 * count} sessions of 2,000 records, {words}: {time.monotonic() - began:.1f} s, load {os.getloadavg()[0]:.1f}", flush=True)
+        size = sum(path.stat().st_size for path in results.rglob("*") if path.is_file())
+        print(f"results {size:,} bytes, report.html {(results / 'report.html').stat().st_size:,}")
+    return 0
+
+
 @case("a few nights, the run killed at random points: nothing is lost, nothing run twice")
 def _():
     year(5)
 
 
-def main(words=""):
-    failed = 0
-    chosen = [(name, function) for name, function in CASES if words in name]
-    for name, function in chosen:
+def outcome(need, function):
+    """What comes of a case: `passed`, `failed` or `not run`, and why."""
+    try:
+        if not NEEDS[need]():
+            raise NotRun(f"there is no {need} here")
+        function()
+    except NotRun as why:
+        return "not run", str(why)
+    except Exception as error:  # a case that fails in any way
+        return "failed", f"{type(error).__name__}: {error}"
+    return "passed", ""
+
+
+def main(chosen):
+    ends = dict.fromkeys(("passed", "failed", "not run"), 0)
+    for name, need, function in chosen:
         began = time.monotonic()
-        try:
-            function()
-        except Exception as error:  # a case that fails in any way
-            failed += 1
-            print(f"FAILED: {name}: {type(error).__name__}: {error}")
+        end, why = outcome(need, function)
+        ends[end] += 1
+        if why:
+            print(f"{end.upper()}: {name}: {why}")
         if os.environ.get("CABIN_TIMES"):
             print(f"{time.monotonic() - began:5.1f} s {name}", flush=True)
-    for words in NOT_RUN:
-        print(f"not run: {words}")
-    print(f"{len(chosen)} cases of the night run, seed {SEED}: {failed} failed, {len(NOT_RUN)} parts not run")
-    return 1 if failed else 0
+    print(f"{len(chosen)} cases of the night run, seed {SEED}: " + ", ".join(f"{count} {end}" for end, count in ends.items()))
+    return 1 if ends["failed"] else 77 if ends["not run"] else 0
 
 
 if __name__ == "__main__":
-    sys.exit(year(*map(int, sys.argv[2:])) if sys.argv[1:2] == ["--year"] else main(*sys.argv[1:]))
+    if sys.argv[1:2] in (["--year"], ["--load"]):
+        sys.exit({"--year": year, "--load": load}[sys.argv[1]](*map(int, sys.argv[2:])))
+    if sys.argv[1:2] == ["--with"]:
+        sys.exit(main([one for one in CASES if one[1] == sys.argv[2]]))
+    sys.exit(main([one for one in CASES if "".join(sys.argv[1:]) in one[0]]))

@@ -19,24 +19,12 @@ import tempfile
 import time
 
 sys.path.insert(0, str(pathlib.Path(__file__).parent))
+from differences import SHOWN, Differences
 from make_sample import listing
 
-SHOWN = 10
 PATIENCE = 10  # seconds in which a line must come
 COMMENT = re.compile(r"# (day \S+ cs \S+: \S+ of vehicle \d+|offset -?\d+|refused \d+ at \d+$)")
 DECIMAL = re.compile(r"-?\d+\.\d{6}\b|\blarge\b")
-
-
-class Differences:
-    def __init__(self):
-        self.count = 0
-
-    def look(self, what, one, other):
-        if one == other:
-            return
-        self.count += 1
-        if self.count <= SHOWN:
-            print(f"{what}\n  ours:   {str(one)[:400]}\n  second: {str(other)[:400]}")
 
 
 def run(command, *words, given=b""):
@@ -88,8 +76,7 @@ def texts(ours, second, count, seed, room):
         stands.write_bytes(b"what stood there")
         code, _, _ = run(command, "write", stands, given=b"")
         found.look("write onto a file that stands", (code, stands.read_bytes()), (2, b"what stood there"))
-    print(f"{count} sessions shown and written again, {count} texts, seed {seed}: {found.count} differences")
-    return found.count
+    return found.told(f"{count} sessions shown and written again, {count} texts, seed {seed}")
 
 
 def certain(prefix, whole):
@@ -187,8 +174,7 @@ def watch(ours, second, count, seed, room):
         found.look(f"watch of session {path.name} in {len(pieces)} parts", got, watched(second, pieces))
         if len(session) <= 65536:
             found.look(f"watch and list of session {path.name}", got[1], certain(session, True))
-    print(f"{count} sessions watched in parts, seed {seed}: {found.count} differences")
-    return found.count
+    return found.told(f"{count} sessions watched in parts, seed {seed}")
 
 
 WAYS = {"--texts": texts, "--watch": watch}
@@ -197,7 +183,7 @@ WAYS = {"--texts": texts, "--watch": watch}
 def main(way, ours, second, count=60, seed=None):
     seed = int(time.time()) if seed is None else int(seed)
     with tempfile.TemporaryDirectory() as room:
-        return 1 if WAYS[way](ours, second, int(count), seed, pathlib.Path(room)) else 0
+        return WAYS[way](ours, second, int(count), seed, pathlib.Path(room))
 
 
 if __name__ == "__main__":

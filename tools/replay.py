@@ -15,16 +15,17 @@ import tempfile
 import time
 
 sys.path.insert(0, str(pathlib.Path(__file__).parent))
+from differences import Differences
 from settings import record
 
-SHOWN = 10
 NUMBERS = ["39860120000", "490277800", "4294967296", "x41AFFFFFFFFFFFFF", "268435456", "68719476736", "0", "-1", "x7FF8000000000000"]
 UNREAD = ["x", "1e5", "", "-"]
 
 
 def run(command, *words):
+    """The exit status and the lines."""
     ran = subprocess.run([*shlex.split(command), *map(str, words)], capture_output=True)
-    return ran.returncode, ran.stdout
+    return [f"exit {ran.returncode}", *ran.stdout.split(b"\n")]
 
 
 def some_settings(dice):
@@ -61,19 +62,11 @@ def flights(second, count, seed, room):
 
 def main(ours, second, count=60, seed=None):
     seed = int(time.time()) if seed is None else int(seed)
-    flown = different = 0
+    found = Differences()
     with tempfile.TemporaryDirectory() as folder:
         for path, words in flights(second, int(count), seed, pathlib.Path(folder)):
-            one, other = (run(command, "replay", path, *words) for command in (ours, second))
-            flown += 1
-            if one == other:
-                continue
-            different += 1
-            if different <= SHOWN:
-                lines = [(a, b) for a, b in zip(one[1].split(b"\n"), other[1].split(b"\n")) if a != b]
-                print(f"{path.parent.name} {path.name} {' '.join(words)}: exit {one[0]}, the second's {other[0]}; first line that differs: {lines[:1]}")
-    print(f"{flown} sessions flown again, seed {seed}: {different} differences")
-    return 1 if different else 0
+            found.look(" ".join([path.parent.name, path.name, *words]), *(run(command, "replay", path, *words) for command in (ours, second)))
+    return found.told(f"{found.looked} sessions flown again, seed {seed}")
 
 
 if __name__ == "__main__":

@@ -15,7 +15,8 @@ import sys
 import tempfile
 import time
 
-SHOWN = 10
+from differences import Differences
+
 NUMBERS = ["x7FF0000000000000", "xFFF0000000000000", "x7FF8000000000000", "0", "-0", "1", "0.5", "x3EB0000000000000", "x3FF0000000000001",
            "-0.5", "x8000000000000001", "268435456", "x41AFFFFFFFFFFFFF", "68719476736", "x422FFFFFFFFFFFFF", "536870912", "x41BFFFFFFFFFFFFF",
            "x0000000000000001", "6378165", "1738090", "39860120000", "490277800"]
@@ -130,21 +131,14 @@ def outcomes(command, sequence, room):
 
 def main(ours, second, count=20, seed=None):
     seed = int(time.time()) if seed is None else int(seed)
-    files = different = commands = 0
+    found, files = Differences(), sequences(int(count), seed)
     with tempfile.TemporaryDirectory() as folder:
         room = pathlib.Path(folder)
-        for sequence in sequences(int(count), seed):
-            files += 1
+        for sequence in files:
             by_ours, by_second = list(outcomes(ours, sequence, room)), list(outcomes(second, sequence, room))
             for (words, one), (_, other) in zip(by_ours, by_second, strict=True):
-                commands += 1
-                if one == other:
-                    continue
-                different += 1
-                if different <= SHOWN:
-                    print(f"{' '.join(words)}\n  ours:   {str(one)[:300]}\n  second: {str(other)[:300]}")
-    print(f"{files} files of settings, {commands} commands, seed {seed}: {different} differences")
-    return 1 if different else 0
+                found.look(" ".join(words), one, other)
+    return found.told(f"{len(files)} files of settings, {found.looked} commands, seed {seed}")
 
 
 if __name__ == "__main__":

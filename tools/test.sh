@@ -1,22 +1,28 @@
 #!/usr/bin/env bash
 # ./cabin test: what the pages promise, the proofs, the programs, and the comparison with the second program. Every part
 # is made, whatever became of those ahead of it. The last line is the count: what the prover passed and refused, and a
-# part for each of the others.
+# part for each of the others. A part that lacks something of the machine ends with 77: it is named and counts as neither.
 home=$(cd "$(dirname "${BASH_SOURCE[0]}")/.." && pwd -P)
 . "$home/tools/front.sh"
 cd "$home"
 
-passed=0 failed=0 wrong=() whole=no
+passed=0 failed=0 wrong=() left=() whole=no
 at_end=verdict
 
 part() { # NAME COMMAND..
+    local status=0
     printf '\n== %s\n' "$1"
-    if "${@:2}"; then
-        passed=$((passed + 1))
-    else
-        failed=$((failed + 1))
-        wrong+=("$1")
-    fi
+    "${@:2}" || status=$?
+    case $status in
+    0) passed=$((passed + 1)) ;;
+    77) left+=("$1") ;;
+    *) failed=$((failed + 1)) && wrong+=("$1") ;;
+    esac
+}
+
+# Installs a command that one part alone needs. Where it cannot be had, the part says that it was not run.
+want() { # COMMAND PACKAGE
+    (need "$@") || true
 }
 
 # From nothing, with the prover's own count; its lines are printed as they come, and the count is kept for the end. What
@@ -44,12 +50,15 @@ verdict() {
         wrong+=("the gate itself, which was cut off")
     fi
     printf '\n'
+    for one in "${left[@]}"; do printf 'NOT RUN: %s\n' "$one"; done
     for one in "${wrong[@]}"; do printf 'FAILED: %s\n' "$one"; done
     printf '%s passed, %s failed\n' "$passed" "$failed"
 }
 
 need_kit
 need python3 python3
+want chromium chromium
+want parallel parallel
 lock
 part "layout" rt fmt --check
 part "promises" python3 tools/promises.py
@@ -63,7 +72,10 @@ part "the listing, on whole, cut, damaged and over-long sessions" python3 tools/
 part "sessions as text, there and back, and text with faults" python3 tools/text_runs.py
 part "the listing of a session as it comes" python3 tools/watch_runs.py
 part "the front, where things go wrong" python3 tools/front_runs.py
-part "the night run" python3 tools/night_runs.py
+part "the night run" python3 tools/night_runs.py --with nothing
+for one in chromium parallel systemd-analyze mount; do
+    part "the night run, with $one" python3 tools/night_runs.py --with "$one"
+done
 part "stored requests" bash tools/compare.sh stored
 part "fresh requests" bash tools/compare.sh requests
 part "solves stopped and gone on with" bash tools/compare.sh stops

@@ -5,6 +5,7 @@ import struct
 from typing import NamedTuple
 
 HEADING = "day cs vehicle kind result"
+DAY = 8_640_000
 
 
 class Broken(Exception):
@@ -17,10 +18,23 @@ class Mark(NamedTuple):
     cs: int
     off: float
 
+    def time(self):
+        return self.day * DAY + self.cs
+
+
+class Event(NamedTuple):
+    day: int
+    cs: int
+    what: str  # burn or state, or refused
+
+    def time(self):
+        return self.day * DAY + self.cs
+
 
 class Account(NamedTuple):
     records: int
     marks: list
+    events: list  # of the records that are no marks with a result
     first: tuple  # day and cs of the first record that gets a line, or None
     last: tuple
     reason: str  # of the first that is not as it must be, or nothing
@@ -44,7 +58,7 @@ def whole_lines(text):
 def account(text, limit):
     """What a replay's text says, with marks over the limit as a reason."""
     *lines, zero, one = whole_lines(text)
-    marks, first, last, reason, records = [], None, None, "", 0
+    marks, events, first, last, reason, records = [], [], None, None, "", 0
     for line in lines[1:]:
         words = line.split(" ")
         if words[0] == "refused":
@@ -55,11 +69,14 @@ def account(text, limit):
         first = first or last
         if words[4] == "refused":
             reason = reason or f"record {records} refused {words[5]}"
-        elif words[4] == "off":
+            events.append(Event(*last, "refused"))
+        elif words[4] != "off":
+            events.append(Event(*last, words[3]))
+        else:
             marks.append(Mark(records, *last, number(words[7])))
             if not abs(marks[-1].off) <= limit:
                 reason = reason or f"record {records} off {words[5]}"
-    return Account(records, marks, first, last, reason, [zero.split(" "), one.split(" ")])
+    return Account(records, marks, events, first, last, reason, [zero.split(" "), one.split(" ")])
 
 
 def parsed(text, limit):
