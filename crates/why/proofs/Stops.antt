@@ -33,6 +33,7 @@ use Rattle.reach.specs.declared.Arc.{Arc}
 use Rattle.reach.specs.declared.Reached.{Reached}
 use Rattle.reach.specs.declared.Reached.the-variants as H
 use Rattle.reach.specs.Reach.{overBy, orbitOf, timed, xNOf, judgedX, replacedOf, reachOf}
+use Rattle.reach.proofs.Times.{reach-in}
 use Rattle.kepler.specs.declared.Motion.{Motion}
 use Rattle.kepler.specs.Kepler as K
 use Rattle.lambert.specs.declared.Transfer.{Transfer}
@@ -185,3 +186,69 @@ stop-fails problem n e h = go (ltZ (startOf problem .lo) n) (ltZ n (startOf prob
     go true true h = by-test (rangeAt problem n) refl h
     go true false h = let z : _≡_ {A = ℕ} 0 1 = cc in absurd (zero-one z)
     go false q h = let z : _≡_ {A = ℕ} 0 1 = cc in absurd (zero-one z)
+
+-- ---- a neighbour without a time inside the grid is told by a test, so that an end is told of the grid's own ends alone
+
+abbrev pub Timeless : Judgement → Type 0
+Timeless (J.Low t) = ⊥
+Timeless (J.High t) = ⊥
+Timeless J.Under = Prim.Unit
+Timeless J.Over = Prim.Unit
+
+in-time-timed : (asked t : Float) → inTime t ≡ true → Timeless (judgedOf asked t) → ⊥
+unfolding judgedOf
+in-time-timed asked t e h = go (inTime t) (t ≤ᶠ asked) e h
+  where
+    go : (b c : Bool) → b ≡ true → Timeless (cond b (cond c (J.Low t) (J.High t)) J.Over) → ⊥
+    go true true e h = h
+    go true false e h = h
+    go false c e h = true≢false (sym e)
+
+kepler-passed : (asked : Float) (r : Trial) → K.stoppedBy r ≡ Passed → Timeless (K.judgedTrial asked r) → ⊥
+unfolding K.stoppedBy K.judgedTrial
+kepler-passed asked (T.At p) e h = go (inTime (p .t)) refl e
+  where
+    go : (b : Bool) → inTime (p .t) ≡ b → cond b Passed (Failed (rangeTest 7 TrialTime (p .t) (L.SizeAtMost (two^ 28)))) ≡ Passed → ⊥
+    go true k e = in-time-timed asked (p .t) k h
+    go false k e = let z : _≡_ {A = ℕ} 0 1 = cc in zero-one z
+kepler-passed asked (T.Out f) e h = let z : _≡_ {A = ℕ} 0 1 = cc in zero-one z
+
+-- a time that steps 1 to 7 hand out is within its range
+transfer-in : (d : Transfer) (cot t : Float) → M.reachAt d cot ≡ H.Time t → inTime t ≡ true
+unfolding M.reachAt M.sideOf
+transfer-in d cot t e = go (not (f0 <ᶠ M.denOf d cot)) (not (M.pOf d cot ≤ᶠ two^ 4)) (f0 ≤ᶠ d .sin) e
+  where
+    side : (s : Bool) (name : Name) (x : Float) (limit : Limit) → cond s (H.Under (rangeTest 8 name x limit)) (H.Over (rangeTest 7 name x limit)) ≡ H.Time t → ⊥
+    side true name x limit e = let z : _≡_ {A = ℕ} 0 1 = cc in zero-one z
+    side false name x limit e = let z : _≡_ {A = ℕ} 0 1 = cc in zero-one z
+
+    go : (b c s : Bool) → cond b (cond s (H.Under (rangeTest 8 Den (M.denOf d cot) (L.Over f0))) (H.Over (rangeTest 7 Den (M.denOf d cot) (L.Over f0))))
+        (cond c (cond s (H.Under (rangeTest 8 P (M.pOf d cot) (L.AtMost (two^ 4)))) (H.Over (rangeTest 7 P (M.pOf d cot) (L.AtMost (two^ 4))))) (reachOf (M.arcOf d (M.pOf d cot) cot))) ≡ H.Time t → inTime t ≡ true
+    go true c s e = absurd (side s Den (M.denOf d cot) (L.Over f0) e)
+    go false true s e = absurd (side s P (M.pOf d cot) (L.AtMost (two^ 4)) e)
+    go false false s e = reach-in (M.arcOf d (M.pOf d cot) cot) .held t e
+
+lambert-passed : (asked : Float) (r : Reached) → ((t : Float) → r ≡ H.Time t → inTime t ≡ true) → M.stoppedBy r ≡ Passed → Timeless (M.judgedReach asked r) → ⊥
+unfolding M.stoppedBy M.judgedReach
+lambert-passed asked (H.Time t) k e h = in-time-timed asked t (k t refl) h
+lambert-passed asked (H.Under f) k e h = let z : _≡_ {A = ℕ} 0 1 = cc in zero-one z
+lambert-passed asked (H.Over f) k e h = let z : _≡_ {A = ℕ} 0 1 = cc in zero-one z
+
+range-passed : (problem : Problem) (asked : Float) (n : ℤ) → rangeAt problem n ≡ Passed → Timeless (judgeOf problem asked n) → ⊥
+range-passed (Kepler m) asked n e h = kepler-passed asked (K.trialAt m n) e h
+range-passed (Lambert d) asked n e h = lambert-passed asked (M.reachAt d (gridOf n)) (transfer-in d (gridOf n)) e h
+
+pub end-only : (problem : Problem) (asked : Float) (n : ℤ) → Timeless (heldOf problem asked n) → stopOf problem n ≡ S.EndOfGrid
+    → (ltZ (startOf problem .lo) n && ltZ n (startOf problem .hi)) ≡ false
+unfolding heldOf stopOf stopBy
+end-only problem asked n h e = go (ltZ (startOf problem .lo) n) (ltZ n (startOf problem .hi)) h e
+  where
+    by-test : (r : Test) → rangeAt problem n ≡ r → Timeless (judgeOf problem asked n) → stopBy r ≡ S.EndOfGrid → ⊥
+    by-test Passed k h e = range-passed problem asked n k h
+    by-test (Failed f) k h e = let z : _≡_ {A = ℕ} 0 1 = cc in zero-one z
+
+    go : (p q : Bool) → Timeless (cond p (cond q (judgeOf problem asked n) (startOf problem .above)) (startOf problem .below))
+        → cond p (cond q (stopBy (rangeAt problem n)) S.EndOfGrid) S.EndOfGrid ≡ S.EndOfGrid → (p && q) ≡ false
+    go true true h e = absurd (by-test (rangeAt problem n) refl h e)
+    go true false h e = refl
+    go false q h e = refl
