@@ -4,7 +4,7 @@ use mathlib.Core.Path.{_≡_, refl}
 use mathlib.Core.Bool.{true, false}
 use mathlib.Core.List.{List}
 use lib.Ieee.{Float}
-use Rattle.library.specs.Given.{Told, answer, refused, roomFor, numberOf, inFront, numbersAfter, wholesAfter, Given, GivenNumbers}
+use Rattle.library.specs.Given.{Told, answer, refused, roomFor, numberOf, inFront, numbersAfter, wholesAfter, Given, GivenNumbers, GivenWholes}
 
 pub put : {xs : List Float} {zs : List ℕ} {d : List Float} {w : List ℕ} {e : List Float} {v : List ℕ} → e ≡ inFront xs d → v ≡ inFront zs w → Given (answer xs zs) d w e v 0
 unfolding numberOf numbersAfter wholesAfter
@@ -39,3 +39,21 @@ short-numbers t = left-numbers
 pub enough-numbers : {t : Told} {d e : List Float} {r : ℕ} → GivenNumbers t d e r → GivenNumbers (roomFor true t) d e r
 unfolding roomFor
 enough-numbers g = g
+
+-- the same where only whole numbers are lent
+
+pub put-wholes : {xs : List Float} {zs w v : List ℕ} → v ≡ inFront zs w → GivenWholes (answer xs zs) w v 0
+unfolding numberOf wholesAfter
+put-wholes q = record { number = refl; wholes = q }
+
+pub left-wholes : {n : ℕ} {w : List ℕ} → GivenWholes (refused n) w w n
+unfolding numberOf wholesAfter
+left-wholes = record { number = refl; wholes = refl }
+
+pub short-wholes : (t : Told) {w : List ℕ} → GivenWholes (roomFor false t) w w 15
+unfolding roomFor
+short-wholes t = left-wholes
+
+pub enough-wholes : {t : Told} {w v : List ℕ} {r : ℕ} → GivenWholes t w v r → GivenWholes (roomFor true t) w v r
+unfolding roomFor
+enough-wholes g = g

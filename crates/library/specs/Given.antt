@@ -46,6 +46,11 @@ pub record GivenNumbers (t : Told) (d e : List Float) (r : ℕ) : Type 0 where
   pub number : r ≡ numberOf t
   pub numbers : e ≡ numbersAfter t d
 
+-- the same where only whole numbers are lent
+pub record GivenWholes (t : Told) (w v : List ℕ) (r : ℕ) : Type 0 where
+  pub number : r ≡ numberOf t
+  pub wholes : v ≡ wholesAfter t w
+
 -- the first numbers of a lent array as a vector and as a state
 abbrev pub vectorIn : List Float → Vector
 vectorIn s = record { x = getD s 0 nan; y = getD s 1 nan; z = getD s 2 nan }

@@ -2,9 +2,23 @@
 ghost use Prim.Native.Nat.{_≤_};
 ghost use mathlib.Core.Path.{_≡_};
 ghost use lib.ListN.{length};
+ghost use Rattle.field.specs.Bytes.{bitsOf};
 ghost use Rattle.library.specs.Given.{inFront, vectorIn, stateIn};
+use text::is_negative;
+use text::magnitude;
 use vector::State;
 use vector::Vector;
+
+// The 64 bits of a signed number.
+pub fn bits_of(z: i64) -> u64
+    ensures { λ r. ⌜ r ≡ bitsOf z ⌝ }
+{
+    let m = magnitude(z);
+    if is_negative(z) {
+        return 0xffff_ffff_ffff_ffff - m;
+    }
+    m
+}
 
 pub fn vector_in(s: &[f64]) -> Vector
     requires { ⌜ 3 ≤ length (now s) ⌝ }
