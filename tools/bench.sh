@@ -12,13 +12,7 @@ benches=(root:root-by-steps:4000000 root:root:4000000 advance:advance:100000 lam
 
 # At -O3 and over all files at once, C at its best; static, so that it needs no loader; without libm, whose one function is an instruction.
 build_c() {
-    local cc=gcc
-    if [ "$(uname -m)" = x86_64 ]; then
-        need gcc gcc libc6-dev
-    else
-        cc=x86_64-linux-gnu-gcc
-        need "$cc" gcc-x86-64-linux-gnu libc6-dev-amd64-cross
-    fi
+    need_cc
     need make make
     make -s -C "$home/second" CC=$cc OPT='-O3 -flto=auto' OUT="$keep/second-x86-64" LDFLAGS=-static LDLIBS= >&2 ||
         fail "the second program could not be built for x86-64"
@@ -59,8 +53,6 @@ compare() { # RATTLE-SERIES C-SERIES COUNT
 
 ready bench
 build_c
-emulator=()
-[ ${#start[@]} -eq 3 ] || emulator=("${start[0]}")
 rattle=("${start[@]}" "${program[bench]}")
 c=("${emulator[@]}" "$keep/second-x86-64/second" bench)
 times=$(mktemp -d)

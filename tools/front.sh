@@ -38,14 +38,27 @@ need() { # COMMAND PACKAGE..
         fail "it could not be installed: install ${*:2} by hand, then try again"
 }
 
-# The kit, and what starts a program of it: its loader and C library and, off x86-64, its emulator.
+# The kit, and what starts a program of it: its loader and C library and, off x86-64, its emulator, which alone starts a
+# program that is linked statically.
 need_kit() {
     local tools
     command -v rt >/dev/null || fail "the Rattle kit is not on this machine (no command 'rt'): install it, then try again"
     tools=$(dirname "$(dirname "$(rt doc)")")/on/$(uname -m)/toolchain
-    start=("$tools/lib/ld-linux-x86-64.so.2" --library-path "$tools/lib")
-    [ ! -x "$tools/bin/qemu-x86_64" ] || start=("$tools/bin/qemu-x86_64" "${start[@]}")
+    emulator=()
+    [ ! -x "$tools/bin/qemu-x86_64" ] || emulator=("$tools/bin/qemu-x86_64")
+    start=("${emulator[@]}" "$tools/lib/ld-linux-x86-64.so.2" --library-path "$tools/lib")
     unset "${!QEMU_@}"
+}
+
+# A C compiler for x86-64: `cc`.
+need_cc() {
+    cc=gcc
+    if [ "$(uname -m)" = x86_64 ]; then
+        need gcc gcc libc6-dev
+    else
+        cc=x86_64-linux-gnu-gcc
+        need "$cc" gcc-x86-64-linux-gnu libc6-dev-amd64-cross
+    fi
 }
 
 # ---- crates
@@ -126,6 +139,30 @@ ready() { # NAME
     while program[$1]=$keep/$1-$(digest "$1"); [ ! -x "${program[$1]}" ]; do
         [ "${CABIN_BUILD:-yes}" = yes ] || fail "'$1' is not built as its files are now"
         (prove "$1") || exit 2
+    done
+}
+
+# Proves and builds the library, as `prove` does a program.
+prove_library() {
+    local made log=$keep/library.log
+    lock
+    made=$(digest library) || exit 2
+    [ ! -f "$keep/library-$made.a" ] || return 0
+    say "proving and building the library (once; a few minutes)"
+    (cd "$home" && rt staticlib library) 2>&1 </dev/null | tee "$log" | progress "$(related below library | wc -l)" ||
+        fail "the library could not be built: the end of $log says why"
+    [ "$(digest library)" = "$made" ] || { say "a file of the library changed meanwhile"; return 0; }
+    find "$keep" -name 'library-*.a' -mmin +60 -delete
+    cp "$home/target/staticlib/liblibrary.a" "$keep/library.new" && mv "$keep/library.new" "$keep/library-$made.a" ||
+        fail "the library could not be put into $keep"
+}
+
+# Sees to it that the static library is there, made of its files as they are now: `archive`.
+ready_library() {
+    need_kit
+    while archive=$keep/library-$(digest library).a; [ ! -f "$archive" ]; do
+        [ "${CABIN_BUILD:-yes}" = yes ] || fail "the library is not built as its files are now"
+        (prove_library) || exit 2
     done
 }
 

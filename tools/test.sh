@@ -34,6 +34,7 @@ proofs() {
     for main in crates/*/src/main.rt; do
         ./cabin ready "$(basename "${main%/src/main.rt}")" >/dev/null || true
     done
+    mkdir -p target/library && ./cabin library target/library || true
     export CABIN_BUILD=no
 }
 
@@ -73,5 +74,8 @@ part "fresh sessions as text" bash tools/compare.sh texts
 part "fresh sessions in parts" bash tools/compare.sh parts
 part "settings" bash tools/compare.sh settings
 part "sessions flown again" bash tools/compare.sh flights
+part "the library: its header" bash tools/library.sh header
+part "the library: the example" bash tools/library.sh example
+part "the library: requests by a C driver" bash tools/library.sh requests
 whole=yes
 [ "$failed" -eq 0 ]
