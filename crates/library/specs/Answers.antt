@@ -21,7 +21,7 @@ use Rattle.wheel.specs.Wheel.{wheelOf}
 use Rattle.sight.specs.declared.Sight.{Sight}
 use Rattle.sight.specs.declared.Sight.the-variants as S
 use Rattle.sight.specs.Sight.{sightOf}
-use Rattle.library.specs.Given.{Told, answer, refused, roomFor, vectorIn, stateIn}
+use Rattle.lent.specs.Given.{Told, answer, refused, roomFor, vectorIn, stateIn}
 
 -- ---- a number: x
 

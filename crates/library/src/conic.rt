@@ -1,12 +1,12 @@
 // The conic routines.
-ghost use Rattle.library.specs.Given.{Given, GivenNumbers, roomFor};
+ghost use Rattle.lent.specs.Given.{Given, GivenNumbers, roomFor};
 ghost use Rattle.library.specs.Answers.{timeTold, timeIn, apsidesTold, apsidesIn};
 ghost use Prim.Native.Nat.{_≤_};
 ghost use lib.ListN.{length};
-use crate::lent::put_numbers;
-use crate::lent::put_wholes;
-use crate::lent::state_in;
 use apsides::Apsides;
+use lent::put_numbers;
+use lent::put_wholes;
+use lent::state_in;
 use theta::TransferTime;
 
 fn give_time(a: TransferTime, out: &mut [f64]) -> u32

@@ -1,10 +1,10 @@
 // The thumbwheel and the sight line.
 ghost use Prim.Native.Nat.{_≤_};
 ghost use lib.ListN.{length};
-ghost use Rattle.library.specs.Given.{GivenNumbers};
+ghost use Rattle.lent.specs.Given.{GivenNumbers};
 ghost use Rattle.library.specs.Answers.{wheelTold, wheelIn, sightTold, sightIn};
-use crate::lent::put_numbers;
-use crate::lent::vector_in;
+use lent::put_numbers;
+use lent::vector_in;
 use sight::Sight;
 use wheel::Elevation;
 

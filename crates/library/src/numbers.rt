@@ -1,9 +1,9 @@
 // The root and the series.
 ghost use Rattle.root.specs.Root.{rootAnswer};
 ghost use Rattle.series.specs.Series.{cAnswer, sAnswer};
-ghost use Rattle.library.specs.Given.{GivenNumbers};
+ghost use Rattle.lent.specs.Given.{GivenNumbers};
 ghost use Rattle.library.specs.Answers.{oneIn};
-use crate::lent::put_numbers;
+use lent::put_numbers;
 use real::Answer;
 
 // One number, where there is a place for it.

@@ -1,6 +1,6 @@
 -- Short or not, and then the apsides. Assumes nothing.
 use borrow.Author.Tests.{lt-leb, le-leb}
-use Rattle.library.proofs.Gives.{short, enough}
+use Rattle.lent.proofs.Gives.{short, enough}
 use borrow.Author.Needs.{needs}
 use Rattle.library.proofs.conic.cabin_apsides.Statement.{statement}
 use Rattle.library.proofs.conic.cabin_apsides.Tie as tie

@@ -1,6 +1,6 @@
 -- Short or not, and then the time. Assumes nothing.
 use borrow.Author.Tests.{lt-leb, le-leb}
-use Rattle.library.proofs.Gives.{short-numbers, enough-numbers}
+use Rattle.lent.proofs.Gives.{short-numbers, enough-numbers}
 use borrow.Author.Needs.{needs}
 use Rattle.library.proofs.conic.cabin_transfer_time.Statement.{statement}
 use Rattle.library.proofs.conic.cabin_transfer_time.Tie as tie

@@ -1,6 +1,7 @@
 -- By the case of the answer. Assumes nothing.
+use native.Mathlib.Omega.{arith}
 use Rattle.library.specs.Answers.{apsidesTold}
-use Rattle.library.proofs.Gives.{put, left}
+use Rattle.lent.proofs.Gives.{put, left}
 use borrow.Author.Needs.{needs}
 use Rattle.library.proofs.conic.give_apsides.Statement.{statement}
 use Rattle.library.proofs.conic.give_apsides.Tie as tie
@@ -46,7 +47,7 @@ same-length-2 c = search needs
 
 returns : tie.Need-returns
 unfolding apsidesTold
-returns c = rw (c .before .before .before .before .before .before .before .before .before .before .before .a .given .1) (put (c .before .before .before .before .before .before .before .put-numbers .ensures) (c .before .before .put-wholes .ensures))
+returns c = rw (c .before .before .before .before .before .before .before .before .before .before .before .a .given .1) (put (c .before .before .before .before .before .before .before .put-numbers .ensures) (c .before .before .put-wholes .ensures) (omega arith, omega arith) (omega arith, omega arith))
 
 same-length-3 : tie.Need-same-length-3
 same-length-3 c = search needs
@@ -56,7 +57,7 @@ same-length-4 c = search needs
 
 returns-2 : tie.Need-returns-2
 unfolding apsidesTold
-returns-2 c = rw (c .before .before .before .before .before .before .before .before .before .before .before .a2 .given .1) (put (c .before .before .before .before .before .before .before .put-numbers2 .ensures) (c .before .before .put-wholes2 .ensures))
+returns-2 c = rw (c .before .before .before .before .before .before .before .before .before .before .before .a2 .given .1) (put (c .before .before .before .before .before .before .before .put-numbers2 .ensures) (c .before .before .put-wholes2 .ensures) (omega arith, omega arith) (omega arith, omega arith))
 
 returns-3 : tie.Need-returns-3
 unfolding apsidesTold

@@ -1,7 +1,8 @@
 -- A number is put where there is a place for it. Assumes nothing.
+use native.Mathlib.Omega.{arith}
 use borrow.Author.Tests.{lt-leb, le-leb}
 use Rattle.library.specs.Answers.{oneTold}
-use Rattle.library.proofs.Gives.{put-numbers, left-numbers, short-numbers, enough-numbers}
+use Rattle.lent.proofs.Gives.{put-numbers, left-numbers, short-numbers, enough-numbers}
 use borrow.Author.Needs.{needs}
 use Rattle.library.proofs.numbers.give_one.Statement.{statement}
 use Rattle.library.proofs.numbers.give_one.Tie as tie
@@ -26,7 +27,7 @@ same-length c = search needs
 
 returns-2 : tie.Need-returns-2
 unfolding oneTold
-returns-2 c = rw (le-leb _ _ (c .before .before .before .before .before .before .before .before .if1 .left), c .before .before .before .before .before .before .a .given .1) (enough-numbers (put-numbers (c .before .before .put-numbers .ensures)))
+returns-2 c = rw (le-leb _ _ (c .before .before .before .before .before .before .before .before .if1 .left), c .before .before .before .before .before .before .a .given .1) (enough-numbers (put-numbers (c .before .before .put-numbers .ensures) (omega arith, omega arith)))
 
 returns-3 : tie.Need-returns-3
 unfolding oneTold
