@@ -60,7 +60,7 @@ static void say_apsides(const char *name, const double state[6])
 
 int main(void)
 {
-    static const double nothing[3] = { 0, 0, 0 };
+    static const double middle[6] = { 0, 0, 0, 0, 0, 0 };
     double active[6], passive[6], later[8], velocity[5], there[8];
     int64_t whole[4];
     circle(6545000.0, 0, active);
@@ -85,7 +85,7 @@ int main(void)
 
     /* An orbit that is refused: what is lent for the answer is as it was. */
     there[0] = 1;
-    printf("from the middle of the earth: refused %u", (unsigned)cabin_advance(mu, nothing, 3, coast, there, 8, whole, 4));
+    printf("from the middle of the earth: refused %u", (unsigned)cabin_advance(mu, middle, 6, coast, there, 8, whole, 4));
     printf(", and the first number is still %.0f\n", there[0]);
     return 0;
 }

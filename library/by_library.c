@@ -17,14 +17,23 @@
 
 enum { MOST = 8 };
 
-/* What is lent for an answer, filled so that a byte that is written where none should be shows. */
+/* What is lent for an answer. */
 typedef struct { double numbers[MOST]; int64_t whole[MOST]; } lent;
 
-static const lent untouched = { { -1, -1, -1, -1, -1, -1, -1, -1 }, { -1, -1, -1, -1, -1, -1, -1, -1 } };
-
-/* A refusal has written nothing; an answer nothing behind its places. */
+#ifdef TIMED
+#define FRESH
 static int checked(uint32_t refused, const lent *l, size_t numbers, size_t wholes)
 {
+    (void)l, (void)numbers, (void)wholes;
+    return (int)refused;
+}
+#else
+/* It is filled, so that a byte that is written where none should be shows: a refusal has written nothing, an answer
+ * nothing behind its places. */
+#define FRESH = { { -1, -1, -1, -1, -1, -1, -1, -1 }, { -1, -1, -1, -1, -1, -1, -1, -1 } }
+static int checked(uint32_t refused, const lent *l, size_t numbers, size_t wholes)
+{
+    static const lent untouched FRESH;
     size_t n = refused ? 0 : numbers, w = refused ? 0 : wholes;
     if (memcmp(l->numbers + n, untouched.numbers + n, (MOST - n) * sizeof(double)) != 0 ||
         memcmp(l->whole + w, untouched.whole + w, (MOST - w) * sizeof(int64_t)) != 0) {
@@ -33,6 +42,7 @@ static int checked(uint32_t refused, const lent *l, size_t numbers, size_t whole
     }
     return (int)refused;
 }
+#endif
 
 static vector vector_of(const double *x)
 {
@@ -51,19 +61,19 @@ static number number_of(uint32_t refused, const lent *l)
 
 number root(double x)
 {
-    lent l = untouched;
+    lent l FRESH;
     return number_of(cabin_root(x, l.numbers, 1), &l);
 }
 
 number series_c(double xi)
 {
-    lent l = untouched;
+    lent l FRESH;
     return number_of(cabin_c(xi, l.numbers, 1), &l);
 }
 
 number series_s(double xi)
 {
-    lent l = untouched;
+    lent l FRESH;
     return number_of(cabin_s(xi, l.numbers, 1), &l);
 }
 
@@ -78,9 +88,9 @@ static const uint64_t judged_as[] = { [LOW] = CABIN_LOW, [HIGH] = CABIN_HIGH, [U
 
 point trial(double asked, int64_t lo, int64_t hi, judgement below, judgement above, uint64_t k)
 {
-    lent l = untouched;
+    lent l FRESH;
     uint32_t r = cabin_trial(asked, lo, hi, judged_as[below.as], below.time, judged_as[above.as], above.time, k, l.whole, 2);
-    bool none = l.whole[0] == 0;
+    bool none = r == 0 && l.whole[0] == 0;
     return (point){ checked(r, &l, 0, none ? 1 : 2), none, l.whole[1] };
 }
 
@@ -90,7 +100,7 @@ static const enum grade graded[] = { [CABIN_CLOSED] = CLOSED, [CABIN_FAIR] = FAI
 
 solution kepler(double mu, state from, double time)
 {
-    lent l = untouched;
+    lent l FRESH;
     int r = checked(cabin_advance(mu, LENT_STATE(from), time, l.numbers, 8, l.whole, 4), &l, 8, 4);
     if (r)
         return (solution){ .refused = r };
@@ -102,7 +112,7 @@ static const uint64_t ways[] = { [SHORT_WAY] = CABIN_SHORT_WAY, [LONG_WAY] = CAB
 
 static solution transfer(double mu, vector from, vector to, double time, way way)
 {
-    lent l = untouched;
+    lent l FRESH;
     int r = checked(cabin_transfer_velocity(mu, LENT(from), LENT(to), ways[way.as], LENT(way.normal), time, l.numbers, 5, l.whole, 3), &l, 5, 3);
     if (r)
         return (solution){ .refused = r };
@@ -129,13 +139,13 @@ solution transfer_velocity(double mu, vector from, vector to, double time, way w
 
 number time_theta(double mu, state from, double sine, double cosine)
 {
-    lent l = untouched;
+    lent l FRESH;
     return number_of(cabin_transfer_time(mu, LENT_STATE(from), sine, cosine, l.numbers, 1), &l);
 }
 
 apses apsides(double mu, state at)
 {
-    lent l = untouched;
+    lent l FRESH;
     uint32_t r = cabin_apsides(mu, LENT_STATE(at), l.numbers, 2, l.whole, 1);
     bool closed = l.whole[0] == CABIN_CLOSED_ORBIT;
     return (apses){ checked(r, &l, closed ? 2 : 1, 1), closed, l.numbers[0], l.numbers[1] };
@@ -143,7 +153,7 @@ apses apsides(double mu, state at)
 
 cdh_answer cdh(uint64_t body, double radius, double mu, timed_state active, timed_state passive, int64_t t2, int64_t t3)
 {
-    lent l = untouched;
+    lent l FRESH;
     uint32_t r = cabin_constant_height(body, radius, mu, LENT_STATE(active.at), active.time, LENT_STATE(passive.at), passive.time,
                                        t2, t3, l.numbers, 5, l.whole, 1);
     bool closed = l.whole[0] == CABIN_CLOSED_ORBIT;
@@ -154,13 +164,13 @@ cdh_answer cdh(uint64_t body, double radius, double mu, timed_state active, time
 
 wheel_answer wheel(uint64_t e)
 {
-    lent l = untouched;
+    lent l FRESH;
     return (wheel_answer){ checked(cabin_wheel(e, l.numbers, 2), &l, 2, 0), l.numbers[0], l.numbers[1] };
 }
 
 sight_answer sight(vector active, vector passive, uint64_t e, vector horizontal, vector vertical)
 {
-    lent l = untouched;
+    lent l FRESH;
     uint32_t r = cabin_sight(LENT(active), LENT(passive), e, LENT(horizontal), LENT(vertical), l.numbers, 8);
     return (sight_answer){ checked(r, &l, 8, 0), { l.numbers[0], l.numbers[1] }, { vector_of(l.numbers + 2), vector_of(l.numbers + 5) } };
 }

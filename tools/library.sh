@@ -59,7 +59,7 @@ requests() {
 }
 
 # Requests that the library does not have.
-not_yet=' (from|limit|version) |^why '
+not_yet='[[:space:]](from|limit|version)[[:space:]]|^[[:space:]]*why'
 
 mkdir -p "$room"
 ./cabin library "$room"

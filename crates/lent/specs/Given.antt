@@ -40,6 +40,11 @@ unfoldable pub wholesAfter : Told → List ℕ → List ℕ
 wholesAfter (answer xs zs) w = inFront zs w
 wholesAfter (refused n) w = w
 
+-- a lent buffer d afterwards: refused, it is as it was; else it is e
+unfoldable pub bytesAfter : Told → List ℕ → List ℕ → List ℕ
+bytesAfter (answer xs zs) e d = e
+bytesAfter (refused n) e d = d
+
 -- t is given: r is returned, and the lent arrays d and w become e and v
 pub record Given (t : Told) (d : List Float) (w : List ℕ) (e : List Float) (v : List ℕ) (r : ℕ) : Type 0 where
   pub number : r ≡ numberOf t
