@@ -27,7 +27,7 @@ fn count_from(k: u64) -> usize
     2
 }
 
-fn record_from(k: u64, vehicle: u8, body: u8, time: i64, numbers: &[f64]) -> Record
+pub fn record_from(k: u64, vehicle: u8, body: u8, time: i64, numbers: &[f64]) -> Record
     ensures { λ r. ⌜ r ≡ recordFrom k vehicle body time (now (numbers .entry)) ⌝ }
 {
     if k == 1 {
