@@ -7,6 +7,8 @@
 #include "desk.h"
 #include "files.h"
 #include "programs.h"
+#include "session.h"
+#include "settings.h"
 #include "sight.h"
 
 #include <inttypes.h>
@@ -175,7 +177,109 @@ sight_answer sight(vector active, vector passive, uint64_t e, vector horizontal,
     return (sight_answer){ checked(r, &l, 8, 0), { l.numbers[0], l.numbers[1] }, { vector_of(l.numbers + 2), vector_of(l.numbers + 5) } };
 }
 
-/* The driver: a line in, a line out; or a bench's checksum. */
+/* Session records */
+
+static record record_of(const lent *l)
+{
+    const int64_t *w = l->whole;
+    if (w[0] == CABIN_OFFSET)
+        return (record){ .kind = OFFSET, .offset = w[2] };
+    record r = { .kind = (int)w[0], .vehicle = (uint64_t)w[3], .byte = (uint64_t)w[4], .time = w[5] };
+    memcpy(r.numbers, l->numbers, sizeof r.numbers);
+    return r;
+}
+
+reading read_record(const uint8_t *session, size_t size, place from)
+{
+    static const place start;
+    lent l FRESH;
+    uint32_t refused = cabin_read(session, size, from.byte, (int16_t)from.offset, l.numbers, 6, l.whole, 6);
+    int64_t kind = refused ? CABIN_END : l.whole[0];
+    if (refused || kind == CABIN_END)
+        return (reading){ checked(refused, &l, 0, 1), .end = !refused, .place = size > SESSION_MAX ? start : from };
+    checked(refused, &l, kind == CABIN_OFFSET ? 0 : (size_t)numbers_of((int)kind), kind == CABIN_OFFSET ? 3 : 6);
+    return (reading){ .place = { (size_t)l.whole[1], l.whole[2] }, .record = record_of(&l) };
+}
+
+writing append_record(uint8_t *buffer, size_t size, size_t used, const record *r)
+{
+    lent l FRESH;
+    uint32_t refused = 14; /* for what its parameter cannot hold */
+    if (r->kind == OFFSET && INT16_MIN <= r->offset && r->offset <= INT16_MAX)
+        refused = cabin_write_offset(buffer, size, used, (int16_t)r->offset, l.whole, 1);
+    else if (r->kind != OFFSET && r->vehicle <= UINT8_MAX && r->byte <= UINT8_MAX)
+        refused = cabin_write(buffer, size, used, (uint64_t)r->kind, (uint8_t)r->vehicle, (uint8_t)r->byte, r->time, r->numbers,
+                              (size_t)numbers_of(r->kind), l.whole, 1);
+    return (writing){ checked(refused, &l, 0, 1), refused ? used : (size_t)l.whole[0] };
+}
+
+/* The listing */
+
+enum { LINE = 40 };
+
+size_t listing_line(const reading *read, char out[LINE])
+{
+    lent l FRESH;
+    uint32_t refused;
+    if (read->refused)
+        refused = cabin_refused_line((uint8_t)read->refused, read->place.byte, (uint8_t *)out, LINE, l.whole, 1);
+    else if (!read->end && !read->used_up && read->record.kind != OFFSET)
+        refused = cabin_record_line((uint64_t)read->record.kind, (uint8_t)read->record.vehicle, read->record.time,
+                                    (int16_t)read->place.offset, (uint8_t *)out, LINE, l.whole, 1);
+    else
+        return 0;
+    return checked(refused, &l, 0, 1) ? 0 : (size_t)l.whole[0];
+}
+
+listed listing(const uint8_t *session, size_t size, char out[LISTING_MAX])
+{
+    lent l FRESH;
+    checked(cabin_heading((uint8_t *)out, LINE, l.whole, 1), &l, 0, 1);
+    char *at = out + l.whole[0];
+    for (place from = { 0, 0 };;) {
+        reading read = read_record(session, size, from);
+        at += listing_line(&read, at);
+        if (read.refused || read.end)
+            return (listed){ (size_t)(at - out), read.refused != 0 };
+        from = read.place;
+    }
+}
+
+/* Settings */
+
+versioned version_of(const settings *s, uint64_t number)
+{
+    lent l FRESH;
+    int refused = checked(cabin_look_up(s->bytes, s->used, number, l.numbers, 4, l.whole, 1), &l, 4, 1);
+    if (refused)
+        return (versioned){ .refused = refused };
+    const double *n = l.numbers;
+    return (versioned){ .number = number, .version = { (uint64_t)l.whole[0], n[0], n[1], n[2], n[3] } };
+}
+
+static versioned stored(settings *s, uint32_t refused, const lent *l)
+{
+    if (checked(refused, l, 0, 2))
+        return (versioned){ .refused = (int)refused };
+    s->used = (size_t)l->whole[1];
+    return version_of(s, (uint64_t)l->whole[0]);
+}
+
+versioned store_version(settings *s, size_t size, const version *v)
+{
+    lent l FRESH;
+    uint32_t refused = cabin_store(s->bytes, size, s->used, v->body, v->mu, v->radius, v->closed, v->fair, l.whole, 2);
+    return stored(s, refused, &l);
+}
+
+versioned go_back(settings *s, size_t size, uint64_t number)
+{
+    lent l FRESH;
+    uint32_t refused = cabin_go_back(s->bytes, size, s->used, number, l.whole, 2);
+    return stored(s, refused, &l);
+}
+
+/* The driver: the second program's own programs, but for those that make requests and sessions. */
 
 static int desk(void)
 {
@@ -194,10 +298,23 @@ static int desk(void)
 int main(int words, char **word)
 {
     uint64_t checksum;
-    if (words == 2 && strcmp(word[1], "desk") == 0)
+    const char *what = words > 1 ? word[1] : "";
+    if (words == 2 && strcmp(what, "desk") == 0)
         return desk();
-    if (words == 4 && strcmp(word[1], "bench") == 0 && bench(word[2], strtoull(word[3], NULL, 10), &checksum))
+    if (words <= 3 && strcmp(what, "list") == 0)
+        return list(word[2]);
+    if (words <= 3 && strcmp(what, "show") == 0)
+        return show(word[2]);
+    if (words == 3 && strcmp(what, "write") == 0)
+        return write_session(word[2], false);
+    if (words == 4 && strcmp(what, "write") == 0 && strcmp(word[2], "--replace") == 0)
+        return write_session(word[3], true);
+    if (words > 3 && strcmp(what, "settings") == 0)
+        return settings_program(words - 2, word + 2);
+    if (words > 2 && strcmp(what, "replay") == 0)
+        return replay_program(words - 2, word + 2);
+    if (words == 4 && strcmp(what, "bench") == 0 && bench(word[2], strtoull(word[3], NULL, 10), &checksum))
         return printf("%016" PRIX64 "\n", checksum) < 0;
-    fputs("by_library desk | by_library bench NAME COUNT\n", stderr);
+    fputs("by_library desk | list | show | write | settings | replay | bench NAME COUNT\n", stderr);
     return 2;
 }

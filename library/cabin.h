@@ -20,11 +20,13 @@
  *    6  a derived number is out of its range
  *    7  the time is too long          8  the time is too short
  *    9  the result is out of range   10  the angle is too small, or no angle
- *   14  a case that there is not: a judgement, a way round, a body
+ *   11  a record is cut short    12  its length is wrong    13  its kind is unknown
+ *   14  a field that is not allowed, or a case that there is not: a judgement, a way round, a body
  *   15  a lent array is too short
  *   16  an elevation over 3,599     17  an axis that is no unit vector     18  the line meets no point so far out
  *   19  a straight fall
- *   22  a radius not in 0 < r < 2^29     25  T3 less than 60,000 behind T2
+ *   22  a radius not in 0 < r < 2^29, or fractions not in 0..1 in order     23  no such version     24  already 64
+ *   30  no settings     25  T3 less than 60,000 behind T2
  *   26  no orbit at that height     27  no such speed     28  the pericentre is too low
  */
 #ifndef CABIN_H
@@ -135,6 +137,70 @@ uint32_t cabin_wheel(uint64_t e, double *out, size_t out_count);
 uint32_t cabin_sight(const double *active, size_t active_count, const double *passive, size_t passive_count, uint64_t e,
                      const double *horizontal, size_t horizontal_count, const double *vertical, size_t vertical_count,
                      double *out, size_t out_count);
+
+/* ---- session records */
+
+/* A record's kind; 0 says that a session has ended. */
+enum { CABIN_END = 0, CABIN_STATE = 1, CABIN_BURN = 2, CABIN_MARK = 3, CABIN_OFFSET = 4 };
+
+/* The record of a session, of at most 65,536 bytes, at a place; the session's local offset there is in minutes. Begin at
+ * place 0 with offset 0, and go on with what is handed out. Writes up to 6 whole numbers and 6 doubles:
+ *     CABIN_END alone, at the end;
+ *     CABIN_OFFSET, the place behind it, the new offset;
+ *     the kind, the place behind it, the offset, the vehicle (0 or 1), the body (0 earth, 1 moon; 0 but for a state), the
+ *     time in cs; and the numbers: a state, or a change of velocity, or range and range rate.
+ * Refusals: 11 cut short, 12 length wrong (a session over 65,536 bytes too), 13 kind unknown, 14 field not allowed, 15. The
+ * record that is refused stands at the place that was asked for, but that 12 of a session that is too long has no place.
+ *     int64_t whole[6] = { 0 };
+ *     double numbers[6];
+ *     size_t at = 0;
+ *     int16_t offset = 0;
+ *     while (cabin_read(session, size, at, offset, numbers, 6, whole, 6) == 0 && whole[0] != CABIN_END)
+ *         at = (size_t)whole[1], offset = (int16_t)whole[2]; */
+uint32_t cabin_read(const uint8_t *session, size_t session_count, size_t at, int16_t offset, double *out, size_t out_count,
+                    int64_t *whole, size_t whole_count);
+
+/* Writes a record at a place of a buffer, behind those that are there: 6 numbers of a state, 3 of a burn, 2 of a mark; the body
+ * is read for a state alone. Writes 1 whole number, the place behind it; all other bytes of the buffer stay. Refusals: 13; 14
+ * vehicle, body, time (over 2^53 in size) or number not allowed; 15, also where the record does not fit the buffer or the
+ * 65,536 bytes of a session.
+ *     double mark[2] = { 1000.0, -0.5 };
+ *     cabin_write(buffer, sizeof buffer, at, CABIN_MARK, 0, 0, 64, mark, 2, &next, 1); */
+uint32_t cabin_write(uint8_t *buffer, size_t buffer_count, size_t at, uint64_t kind, uint8_t vehicle, uint8_t body,
+                     int64_t time, const double *numbers, size_t numbers_count, int64_t *whole, size_t whole_count);
+
+/* Writes the record that sets the local offset, which is a session's first, so at place 0. Likewise; refusals 14, 15. */
+uint32_t cabin_write_offset(uint8_t *buffer, size_t buffer_count, size_t at, int16_t minutes, int64_t *whole,
+                            size_t whole_count);
+
+/* The listing's lines, each at the front of a line buffer of at least 40 bytes, the rest of which stays: the heading, a record's
+ * (its day and cs by a clock that is offset minutes ahead), a refusal's. Each writes 1 whole number, the line's length with its
+ * newline; there is no 0 behind it. Refusals: 13 (a record's), 15.
+ *     uint8_t line[40];
+ *     int64_t length;
+ *     cabin_record_line(CABIN_BURN, 1, 64, 0, line, sizeof line, &length, 1);      0 64 1 burn */
+uint32_t cabin_heading(uint8_t *line, size_t line_count, int64_t *whole, size_t whole_count);
+uint32_t cabin_record_line(uint64_t kind, uint8_t vehicle, int64_t time, int16_t offset, uint8_t *line, size_t line_count,
+                           int64_t *whole, size_t whole_count);
+uint32_t cabin_refused_line(uint8_t number, uint64_t place, uint8_t *line, size_t line_count, int64_t *whole,
+                            size_t whole_count);
+
+/* ---- settings: versions 1, 2, 3 on, of 44 bytes each, at most 64, one behind the other in a buffer; `used` is what they take */
+
+/* Version k of the used part. Writes 4 doubles: mu, the radius, the two fractions of the grades; and 1 whole number, the body.
+ * Refusals: 15, 23 no such version, 30 the used part is no settings. */
+uint32_t cabin_look_up(const uint8_t *used, size_t used_count, uint64_t k, double *out, size_t out_count, int64_t *whole,
+                       size_t whole_count);
+
+/* Stores a version behind the used part of a buffer, or a copy of version k. Writes 2 whole numbers: the new version's number,
+ * and the bytes then used. Every other byte of the buffer stays. Refusals: 1, 2, 14 body, 22 fractions or radius (of a new one);
+ * 15, also where the buffer has no room; 23 (of a copy), 24 already 64, 30.
+ *     uint8_t buffer[64 * 44];
+ *     int64_t stored[2];
+ *     cabin_store(buffer, sizeof buffer, 0, 0, 39860120000.0, 6378166.0, 0x1p-20, 0x1p-10, stored, 2);     stored is 1, 44 */
+uint32_t cabin_store(uint8_t *buffer, size_t buffer_count, size_t used, uint64_t body, double mu, double radius, double closed,
+                     double fair, int64_t *whole, size_t whole_count);
+uint32_t cabin_go_back(uint8_t *buffer, size_t buffer_count, size_t used, uint64_t k, int64_t *whole, size_t whole_count);
 
 #ifdef __cplusplus
 }

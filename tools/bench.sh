@@ -23,10 +23,7 @@ build_c() {
 build_callers() {
     mkdir -p "$keep/callers"
     "$home/cabin" library "$keep/callers"
-    # shellcheck disable=SC2046
-    "$cc" -std=c11 -D_POSIX_C_SOURCE=200809L -O3 -ffp-contract=off -fno-math-errno -DTIMED -I"$keep/callers" -I"$home/second" -static \
-        -o "$keep/callers/by_library" "$home/library/by_library.c" $(printf "$home/second/%s.c " words pen desk files bench session listing) \
-        "$keep/callers/libcabin.a" || fail "the library's caller could not be built"
+    build_driver "$keep/callers" -O3 -DTIMED
     make -s -C "$home/second" CC="$cc" OPT=-O3 OUT="$keep/callers" LDFLAGS=-static LDLIBS= >&2 ||
         fail "the second program could not be built for x86-64"
 }

@@ -179,6 +179,20 @@ ready_library() {
     done
 }
 
+# Builds FOLDER/by_library: the second program's own programs over the routines of FOLDER's library. What both have is put
+# out of the way by another name.
+build_driver() { # FOLDER FLAG..
+    local to=$1 from=$home/second flags
+    flags=(-std=c11 -D_POSIX_C_SOURCE=200809L -ffp-contract=off -fno-math-errno -Wall -Wextra -I"$to" -I"$from" "${@:2}")
+    need_cc
+    "$cc" "${flags[@]}" -c -o "$to/session.o" -Dread_record=own_read_record -Dappend_record=own_append_record "$from/session.c" &&
+        "$cc" "${flags[@]}" -c -o "$to/listing.o" -Dlisting_line=own_listing_line -Dlisting=own_listing "$from/listing.c" &&
+        "$cc" "${flags[@]}" -c -o "$to/settings.o" -Dversion_of=own_version_of -Dstore_version=own_store_version -Dgo_back=own_go_back "$from/settings.c" &&
+        "$cc" "${flags[@]}" -static -o "$to/by_library" "$home/library/by_library.c" \
+            "$from"/{words,pen,desk,files,bench,records,text,versions,replay,replays,tests}.c "$to"/{session,listing,settings}.o \
+            "$to/libcabin.a" || fail "the library's driver could not be built"
+}
+
 # Runs a program that is ready.
 run() { # NAME [WORD..]
     "${start[@]}" "${program[$1]}" "${@:2}" || { say "'$1' ended with status $?"; return 2; }

@@ -1,7 +1,8 @@
 #!/usr/bin/env bash
 # library.sh PART: the library as its callers have it. Parts: header (cabin.h as C11 and as C++17, with all warnings), example
 # (examples/rendezvous.c, held to its stored output), requests (the stored requests and fresh ones by a C driver, whose
-# answers are the desk's to the byte). Programs are built for x86-64 and run under the kit's emulator elsewhere.
+# answers are the desk's to the byte), records and versions (fresh sessions, texts and settings by the driver and by ./cabin).
+# Programs are built for x86-64 and run under the kit's emulator elsewhere.
 home=$(cd "$(dirname "${BASH_SOURCE[0]}")/.." && pwd -P)
 . "$home/tools/front.sh"
 cd "$home"
@@ -19,23 +20,12 @@ header() {
     echo "cabin.h: C11 and C++17, no warning"
 }
 
-# A program of C, with the library.
-built() { # NAME WORD..
-    need_cc
-    "$cc" -std=c11 -D_POSIX_C_SOURCE=200809L -O2 -ffp-contract=off -fno-math-errno -Wall -Wextra -I"$room" -static \
-        -o "$room/$1" "${@:2}" "$room/libcabin.a"
-}
-
 example() {
-    built rendezvous examples/rendezvous.c
+    need_cc
+    "$cc" -std=c11 "${warnings[@]}" -O2 -I"$room" -static -o "$room/rendezvous" examples/rendezvous.c "$room/libcabin.a"
     "${emulator[@]}" "$room/rendezvous" >"$room/rendezvous.txt"
     diff examples/rendezvous.txt "$room/rendezvous.txt"
     echo "examples/rendezvous.c: $(wc -l <"$room/rendezvous.txt") lines as stored"
-}
-
-# The second program's reader of lines over the library's routines.
-driver() {
-    built by_library -Isecond library/by_library.c second/{words,pen,desk,files,bench,session,listing}.c
 }
 
 ask_both() {
@@ -47,7 +37,7 @@ ask_both() {
 requests() {
     need make make
     need python3 python3
-    driver
+    build_driver "$room" -O2
     ready desk
     echo "stored requests"
     grep -vE "$not_yet" crates/desk/stdin >"$room/requests"
@@ -56,6 +46,49 @@ requests() {
     make -s -C second
     target/second/second requests "$seed" 20000 | grep -vE "$not_yet" >"$room/requests"
     ask_both
+}
+
+# What stands in the second program's place where ./cabin is compared: the driver, and the second program where it makes
+# sessions and texts.
+stand_in() {
+    build_driver "$room" -O2
+    make -s -C second
+    cat >"$room/stand_in" <<END
+#!/bin/sh
+case \$1 in
+sessions | texts) exec "$home/target/second/second" "\$@" ;;
+*) exec ${emulator[*]} "$home/$room/by_library" "\$@" ;;
+esac
+END
+    chmod +x "$room/stand_in"
+}
+
+# Sessions shown and listed, and texts written.
+records() {
+    local session wrong=0 name
+    stand_in
+    ready show
+    ready write
+    ready listing
+    echo "60 fresh sessions shown and 60 texts written, seed $seed"
+    python3 tools/records.py --texts ./cabin "$home/$room/stand_in" 60 "$seed"
+    rm -rf "$room/sessions"
+    mkdir -p "$room/sessions"
+    target/second/second sessions "$seed" 60 "$room/sessions"
+    for session in "$room"/sessions/* samples/*.bin; do
+        name=$(basename "$session")
+        "$room/stand_in" list "$session" >"$room/listed" || [ $? -eq 1 ]
+        run listing "$session" >"$room/wanted"
+        cmp -s "$room/listed" "$room/wanted" || { wrong=$((wrong + 1)) && echo "$name: the listings differ"; }
+    done
+    echo "$(ls "$room"/sessions/* samples/*.bin | wc -l) sessions listed, $wrong differences"
+    [ "$wrong" -eq 0 ]
+}
+
+versions() {
+    stand_in
+    ready history
+    python3 tools/settings.py ./cabin "$home/$room/stand_in" 12 "$seed"
 }
 
 # Requests that the library does not have.

@@ -77,5 +77,7 @@ part "sessions flown again" bash tools/compare.sh flights
 part "the library: its header" bash tools/library.sh header
 part "the library: the example" bash tools/library.sh example
 part "the library: requests by a C driver" bash tools/library.sh requests
+part "the library: sessions by a C driver" bash tools/library.sh records
+part "the library: settings by a C driver" bash tools/library.sh versions
 whole=yes
 [ "$failed" -eq 0 ]
