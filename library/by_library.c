@@ -86,6 +86,12 @@ bool carries_time(judgement j)
     return j.as == LOW || j.as == HIGH;
 }
 
+/* For the second program's own tests, of which the settings' alone are asked. */
+bool time_in_range(double t)
+{
+    return -0x1p28 <= t && t <= 0x1p28;
+}
+
 static const uint64_t judged_as[] = { [LOW] = CABIN_LOW, [HIGH] = CABIN_HIGH, [UNDER] = CABIN_UNDER, [OVER] = CABIN_OVER };
 
 point trial(double asked, int64_t lo, int64_t hi, judgement below, judgement above, uint64_t k)
