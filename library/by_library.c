@@ -207,6 +207,31 @@ reading read_record(const uint8_t *session, size_t size, place from)
     return (reading){ .place = { (size_t)l.whole[1], l.whole[2] }, .record = record_of(&l) };
 }
 
+/* In parts: what is kept of a record that is not whole lies in the stream itself. */
+reading take_part(stream *s, const uint8_t *part, size_t size, size_t *taken)
+{
+    if (s->over)
+        return s->last;
+    lent l FRESH;
+    uint32_t refused = cabin_take_next(s->at.byte, (int16_t)s->at.offset, s->kept, s->unfinished, RECORD_MAX, part, size, *taken,
+                                       l.numbers, 6, l.whole, 7);
+    if (refused) {
+        s->over = true;
+        s->last = (reading){ checked(refused, &l, 0, 0), .place = s->at };
+        return s->last;
+    }
+    int64_t kind = l.whole[0];
+    bool waits = kind == CABIN_WAITS;
+    checked(refused, &l, waits || kind == CABIN_OFFSET ? 0 : (size_t)numbers_of((int)kind), waits || kind == CABIN_OFFSET ? 4 : 7);
+    s->at = (place){ (size_t)l.whole[2], l.whole[3] };
+    s->kept = waits ? (size_t)l.whole[1] : 0;
+    *taken = waits ? size : (size_t)l.whole[1];
+    if (waits)
+        return (reading){ .used_up = true, .place = s->at };
+    memmove(l.whole + 1, l.whole + 2, 5 * sizeof(int64_t));
+    return (reading){ .place = s->at, .record = record_of(&l) };
+}
+
 writing append_record(uint8_t *buffer, size_t size, size_t used, const record *r)
 {
     lent l FRESH;
@@ -311,6 +336,8 @@ int main(int words, char **word)
         return list(word[2]);
     if (words <= 3 && strcmp(what, "show") == 0)
         return show(word[2]);
+    if (words == 2 && strcmp(what, "watch") == 0)
+        return watch();
     if (words == 3 && strcmp(what, "write") == 0)
         return write_session(word[2], false);
     if (words == 4 && strcmp(what, "write") == 0 && strcmp(word[2], "--replace") == 0)
@@ -321,6 +348,6 @@ int main(int words, char **word)
         return replay_program(words - 2, word + 2);
     if (words == 4 && strcmp(what, "bench") == 0 && bench(word[2], strtoull(word[3], NULL, 10), &checksum))
         return printf("%016" PRIX64 "\n", checksum) < 0;
-    fputs("by_library desk | list | show | write | settings | replay | bench NAME COUNT\n", stderr);
+    fputs("by_library desk | list | show | watch | write | settings | replay | bench NAME COUNT\n", stderr);
     return 2;
 }

@@ -141,7 +141,7 @@ uint32_t cabin_sight(const double *active, size_t active_count, const double *pa
 /* ---- session records */
 
 /* A record's kind; 0 says that a session has ended. */
-enum { CABIN_END = 0, CABIN_STATE = 1, CABIN_BURN = 2, CABIN_MARK = 3, CABIN_OFFSET = 4 };
+enum { CABIN_END = 0, CABIN_STATE = 1, CABIN_BURN = 2, CABIN_MARK = 3, CABIN_OFFSET = 4, CABIN_WAITS = 5 };
 
 /* The record of a session, of at most 65,536 bytes, at a place; the session's local offset there is in minutes. Begin at
  * place 0 with offset 0, and go on with what is handed out. Writes up to 6 whole numbers and 6 doubles:
@@ -159,6 +159,18 @@ enum { CABIN_END = 0, CABIN_STATE = 1, CABIN_BURN = 2, CABIN_MARK = 3, CABIN_OFF
  *         at = (size_t)whole[1], offset = (int16_t)whole[2]; */
 uint32_t cabin_read(const uint8_t *session, size_t session_count, size_t at, int16_t offset, double *out, size_t out_count,
                     int64_t *whole, size_t whole_count);
+
+/* The same of a session that comes in parts, as over a serial line: the next record that ends in a part, from a place of the
+ * part on. The reader is yours to keep: the place in the session of the record that is not whole yet, the offset there, and how
+ * many of its bytes are kept at the front of a room of 62 bytes; at first 0, 0, 0. Writes up to 7 whole numbers and 6 doubles:
+ *     CABIN_WAITS, how many bytes are kept, the place, the offset: the part is used up, hand over the next;
+ *     CABIN_OFFSET, the place behind it in the part, the place in the session, the new offset;
+ *     the kind, the place behind it in the part, the place in the session, the offset, and as cabin_read; nothing is kept then.
+ * Refusals: as cabin_read; 14 also for a reader that no call handed out, 15 also for a room under 62 bytes and behind 2^63 - 1
+ * bytes of a session. A refusal is of the record at the reader's place, and is the end; the room alone may be changed by it.
+ * Where no part is to come, a reader with bytes kept has met a record cut short, 11. */
+uint32_t cabin_take_next(size_t at, int16_t offset, size_t kept, uint8_t *room, size_t room_count, const uint8_t *part,
+                         size_t part_count, size_t from, double *out, size_t out_count, int64_t *whole, size_t whole_count);
 
 /* Writes a record at a place of a buffer, behind those that are there: 6 numbers of a state, 3 of a burn, 2 of a mark; the body
  * is read for a state alone. Writes 1 whole number, the place behind it; all other bytes of the buffer stay. Refusals: 13; 14

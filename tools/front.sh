@@ -185,7 +185,7 @@ build_driver() { # FOLDER FLAG..
     local to=$1 from=$home/second flags
     flags=(-std=c11 -D_POSIX_C_SOURCE=200809L -ffp-contract=off -fno-math-errno -Wall -Wextra -I"$to" -I"$from" "${@:2}")
     need_cc
-    "$cc" "${flags[@]}" -c -o "$to/session.o" -Dread_record=own_read_record -Dappend_record=own_append_record "$from/session.c" &&
+    "$cc" "${flags[@]}" -c -o "$to/session.o" -Dread_record=own_read_record -Dappend_record=own_append_record -Dtake_part=own_take_part "$from/session.c" &&
         "$cc" "${flags[@]}" -c -o "$to/listing.o" -Dlisting_line=own_listing_line -Dlisting=own_listing "$from/listing.c" &&
         "$cc" "${flags[@]}" -c -o "$to/settings.o" -Dversion_of=own_version_of -Dstore_version=own_store_version -Dgo_back=own_go_back "$from/settings.c" &&
         "$cc" "${flags[@]}" -static -o "$to/by_library" "$home/library/by_library.c" \

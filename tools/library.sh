@@ -40,11 +40,11 @@ requests() {
     build_driver "$room" -O2
     ready desk
     echo "stored requests"
-    grep -vE "$not_yet" crates/desk/stdin >"$room/requests"
+    grep -avE "$not_yet" crates/desk/stdin >"$room/requests"
     ask_both
     echo "20000 fresh requests, seed $seed"
     make -s -C second
-    target/second/second requests "$seed" 20000 | grep -vE "$not_yet" >"$room/requests"
+    target/second/second requests "$seed" 20000 | grep -avE "$not_yet" >"$room/requests"
     ask_both
 }
 
@@ -72,6 +72,9 @@ records() {
     ready listing
     echo "60 fresh sessions shown and 60 texts written, seed $seed"
     python3 tools/records.py --texts ./cabin "$home/$room/stand_in" 60 "$seed"
+    ready watch
+    echo "60 fresh sessions in parts, seed $seed"
+    python3 tools/records.py --watch ./cabin "$home/$room/stand_in" 60 "$seed"
     rm -rf "$room/sessions"
     mkdir -p "$room/sessions"
     target/second/second sessions "$seed" 60 "$room/sessions"

@@ -23,7 +23,7 @@ pub struct Head {
     pub time: i64,
 }
 
-fn head_of(r: Record) -> Head
+pub fn head_of(r: Record) -> Head
     ensures { λ h. ⌜ (h .kind ≡ numberOf (kindIn r)) × (h .vehicle ≡ vehicleIn r) × (h .byte ≡ byteIn r) × (h .time ≡ timeIn r) ⌝ }
 {
     match r {
@@ -48,7 +48,7 @@ fn head_of(r: Record) -> Head
     }
 }
 
-fn put_record_numbers(out: &mut [f64], r: Record)
+pub fn put_record_numbers(out: &mut [f64], r: Record)
     ensures { λ _. ⌜ now (out .exit) ≡ putIn (numbersIn r) (now (out .entry)) ⌝ }
 {
     match r {
@@ -70,7 +70,7 @@ fn put_record_numbers(out: &mut [f64], r: Record)
 }
 
 // The local offset behind what was read, as its 64 bits.
-fn offset_of(p: Place) -> u64
+pub fn offset_of(p: Place) -> u64
     ensures { λ r. ⌜ r ≡ bitsOf (p .offset) ⌝ }
 {
     bits_of(p.offset as i64)
