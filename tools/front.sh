@@ -38,14 +38,27 @@ need() { # COMMAND PACKAGE..
         fail "it could not be installed: install ${*:2} by hand, then try again"
 }
 
-# The kit, and what starts a program of it: its loader and C library and, off x86-64, its emulator.
+# The kit, and what starts a program of it: its loader and C library and, off x86-64, its emulator, which alone starts a
+# program that is linked statically.
 need_kit() {
     local tools
     command -v rt >/dev/null || fail "the Rattle kit is not on this machine (no command 'rt'): install it, then try again"
     tools=$(dirname "$(dirname "$(rt doc)")")/on/$(uname -m)/toolchain
-    start=("$tools/lib/ld-linux-x86-64.so.2" --library-path "$tools/lib")
-    [ ! -x "$tools/bin/qemu-x86_64" ] || start=("$tools/bin/qemu-x86_64" "${start[@]}")
+    emulator=()
+    [ ! -x "$tools/bin/qemu-x86_64" ] || emulator=("$tools/bin/qemu-x86_64")
+    start=("${emulator[@]}" "$tools/lib/ld-linux-x86-64.so.2" --library-path "$tools/lib")
     unset "${!QEMU_@}"
+}
+
+# A C compiler for x86-64: `cc`.
+need_cc() {
+    cc=gcc
+    if [ "$(uname -m)" = x86_64 ]; then
+        need gcc gcc libc6-dev
+    else
+        cc=x86_64-linux-gnu-gcc
+        need "$cc" gcc-x86-64-linux-gnu libc6-dev-amd64-cross
+    fi
 }
 
 # ---- crates
@@ -127,6 +140,57 @@ ready() { # NAME
         [ "${CABIN_BUILD:-yes}" = yes ] || fail "'$1' is not built as its files are now"
         (prove "$1") || exit 2
     done
+}
+
+# The crates whose routines the library has: library, and each whose name begins so.
+library_crates() { sed -n 's/^\(library[a-z_]*\):.*/\1/p' "$home/crates.txt"; }
+
+# A digest of all that the library is made of.
+library_digest() { library_crates | while read -r crate; do digest "$crate" || exit 2; done | sha256sum | cut -c 1-16; }
+
+# Proves the library's crates and puts what is built of them into one archive, as `prove` does a program. In what is built
+# of a crate all names but those of its own routines are local, so that the parts do not meet.
+prove_library() {
+    local made crate log=$keep/library.log parts
+    lock
+    need_cc
+    made=$(library_digest) || exit 2
+    [ ! -f "$keep/libcabin-$made.a" ] || return 0
+    say "proving and building the library (once; a few minutes)"
+    parts=$(mktemp -d)
+    clean+=("$parts")
+    for crate in $(library_crates); do
+        (cd "$home" && rt staticlib "$crate") 2>&1 </dev/null | tee "$log" | progress "$(related below "$crate" | wc -l)" ||
+            fail "the library could not be built: the end of $log says why"
+        (cd "$parts" && "${cc%gcc}ar" x "$home/target/staticlib/lib$crate.a") || fail "the library's part '$crate' cannot be read"
+    done
+    [ "$(library_digest)" = "$made" ] || { say "a file of the library changed meanwhile"; return 0; }
+    find "$keep" -name 'libcabin-*.a' -mmin +60 -delete
+    "${cc%gcc}ar" rcsD "$parts/libcabin.a" "$parts"/*.o && mv "$parts/libcabin.a" "$keep/libcabin-$made.a" ||
+        fail "the library could not be put into $keep"
+}
+
+# Sees to it that the static library is there, made of its files as they are now: `archive`.
+ready_library() {
+    need_kit
+    while archive=$keep/libcabin-$(library_digest).a; [ ! -f "$archive" ]; do
+        [ "${CABIN_BUILD:-yes}" = yes ] || fail "the library is not built as its files are now"
+        (prove_library) || exit 2
+    done
+}
+
+# Builds FOLDER/by_library: the second program's own programs over the routines of FOLDER's library. What both have is put
+# out of the way by another name.
+build_driver() { # FOLDER FLAG..
+    local to=$1 from=$home/second flags
+    flags=(-std=c11 -D_POSIX_C_SOURCE=200809L -ffp-contract=off -fno-math-errno -Wall -Wextra -I"$to" -I"$from" "${@:2}")
+    need_cc
+    "$cc" "${flags[@]}" -c -o "$to/session.o" -Dread_record=own_read_record -Dappend_record=own_append_record -Dtake_part=own_take_part "$from/session.c" &&
+        "$cc" "${flags[@]}" -c -o "$to/listing.o" -Dlisting_line=own_listing_line -Dlisting=own_listing "$from/listing.c" &&
+        "$cc" "${flags[@]}" -c -o "$to/settings.o" -Dversion_of=own_version_of -Dstore_version=own_store_version -Dgo_back=own_go_back "$from/settings.c" &&
+        "$cc" "${flags[@]}" -static -o "$to/by_library" "$home/library/by_library.c" \
+            "$from"/{words,pen,desk,files,bench,records,text,versions,replay,replays,tests}.c "$to"/{session,listing,settings}.o \
+            "$to/libcabin.a" || fail "the library's driver could not be built"
 }
 
 # Runs a program that is ready.

@@ -40,6 +40,7 @@ proofs() {
     for main in crates/*/src/main.rt; do
         ./cabin ready "$(basename "${main%/src/main.rt}")" >/dev/null || true
     done
+    mkdir -p target/library && ./cabin library target/library || true
     export CABIN_BUILD=no
 }
 
@@ -86,5 +87,10 @@ part "fresh sessions in parts" bash tools/compare.sh parts
 part "settings" bash tools/compare.sh settings
 part "solves graded by settings" bash tools/compare.sh grades
 part "sessions flown again" bash tools/compare.sh flights
+part "the library: its header" bash tools/library.sh header
+part "the library: the example" bash tools/library.sh example
+part "the library: requests by a C driver" bash tools/library.sh requests
+part "the library: sessions by a C driver" bash tools/library.sh records
+part "the library: settings by a C driver" bash tools/library.sh versions
 whole=yes
 [ "$failed" -eq 0 ]
