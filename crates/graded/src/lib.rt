@@ -60,15 +60,7 @@ fn transferred(f: Fractions, size: f64, answer: Transferred) -> Transferred
 }
 
 // `solve::advance_limited`, graded by version k of the settings' used part.
-pub fn advance(
-    used: &[u8],
-    k: u64,
-    mu: f64,
-    s: State,
-    t: f64,
-    limit: u64,
-    g: Beginning,
-) -> Advanced
+pub fn advance(used: &[u8], k: u64, mu: f64, s: State, t: f64, limit: u64, g: Beginning) -> Advanced
     ensures { λ r. ⌜ r ≡ gradedAdvance (now (used .entry)) k mu s t limit g ⌝ }
 {
     match settings::look_up(used, k) {

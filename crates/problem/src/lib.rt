@@ -128,8 +128,16 @@ fn stated(c: Checked, problem: Problem, asked: f64, b: Bracket) -> Checked
     let above = b.above;
     let lower = held(problem, asked, b.lo);
     let upper = held(problem, asked, b.hi);
-    let d = test(c, iterator::same(lower, below), Amiss::LoMisjudged(b.lo, lower));
-    test(d, iterator::same(upper, above), Amiss::HiMisjudged(b.hi, upper))
+    let d = test(
+        c,
+        iterator::same(lower, below),
+        Amiss::LoMisjudged(b.lo, lower),
+    );
+    test(
+        d,
+        iterator::same(upper, above),
+        Amiss::HiMisjudged(b.hi, upper),
+    )
 }
 
 // Low or under, and high or over.

@@ -26,12 +26,13 @@ kepler-ended-requires c κs =
     let z = c .before in
     let o = z .before in
     let a = o .before .before .args in
-    let m = o .motion-of .ensures ∙ ap (motionOf (a .mu)) (o .before .turned .ensures) in
-    (m,
-    ap (λ (w : Turns). w .rest)
-    (c .turns-of .ensures
-    ∙ ap (λ (x : Motion). turnsOf x (z .size .result)) m
-    ∙ ap (turnsOf (motionFor (a .mu) (a .s) (a .t))) (z .size .ensures)))
+    let m = o .motion-of .ensures ∙ ap (motionOf (a .mu)) (o .before .turned .ensures) in (
+      m,
+      ap (λ (w : Turns). w .rest)
+          (c .turns-of .ensures
+          ∙ ap (λ (x : Motion). turnsOf x (z .size .result)) m
+          ∙ ap (turnsOf (motionFor (a .mu) (a .s) (a .t))) (z .size .ensures)),
+    )
 
 returns : tie.Need-returns
 returns c = search needs
