@@ -4,7 +4,7 @@ ghost use Rattle.brackets.specs.Brackets.{judgementPieces, endPieces, fr
 use iterator::Bracket;
 use iterator::Judgement;
 
-fn judgement(buf: &mut [u8], at: usize, j: Judgement) -> usize
+pub fn judgement(buf: &mut [u8], at: usize, j: Judgement) -> usize
     ensures { λ r. ⌜ Laid (now (buf .entry)) at (judgementPieces j) (now (buf .exit)) r ⌝ }
 {
     match j {

@@ -1,27 +1,10 @@
 // A bracket's ends as text: an end with its judgement, and the line of what is amiss with a bracket to go on from.
 ghost use mathlib.Core.List.{_∷_};
 ghost use Rattle.text.specs.Pieces.{Laid};
-ghost use Rattle.brackets.specs.Brackets.{judgementPieces, endPieces};
+ghost use Rattle.brackets.specs.Brackets.{endPieces};
 ghost use Rattle.ends.specs.Ends.{placePieces, misjudgedPieces, overPieces, amissPieces};
 use iterator::Judgement;
 use reason::Amiss;
-
-fn judgement(buf: &mut [u8], at: usize, j: Judgement) -> usize
-    ensures { λ r. ⌜ Laid (now (buf .entry)) at (judgementPieces j) (now (buf .exit)) r ⌝ }
-{
-    match j {
-        Judgement::Low(t) => {
-            let a = text::bytes(buf, at, b"low:");
-            figures::bits(buf, a, t)
-        }
-        Judgement::High(t) => {
-            let a = text::bytes(buf, at, b"high:");
-            figures::bits(buf, a, t)
-        }
-        Judgement::Under => text::bytes(buf, at, b"under"),
-        Judgement::Over => text::bytes(buf, at, b"over"),
-    }
-}
 
 // A word, an end's place, and its judgement.
 pub fn end(buf: &mut [u8], at: usize, word: &[u8], n: i64, j: Judgement) -> usize
@@ -31,7 +14,7 @@ pub fn end(buf: &mut [u8], at: usize, word: &[u8], n: i64, j: Judgement) -> usiz
     let b = text::byte(buf, a, b' ');
     let c = text::signed(buf, b, n);
     let d = text::byte(buf, c, b' ');
-    judgement(buf, d, j)
+    brackets::judgement(buf, d, j)
 }
 
 fn place(buf: &mut [u8], end: &[u8], n: i64, must: &[u8]) -> usize
@@ -48,7 +31,7 @@ fn misjudged(buf: &mut [u8], end: &[u8], n: i64, j: Judgement) -> usize
     let a = text::bytes(buf, 0, end);
     let b = text::signed(buf, a, n);
     let c = text::bytes(buf, b, b" must be ");
-    let d = judgement(buf, c, j);
+    let d = brackets::judgement(buf, c, j);
     text::byte(buf, d, b'\n')
 }
 
