@@ -854,6 +854,7 @@ def gate(room, ci, fails=(), lacks=(), **more):
     for name in re.findall(r"python3 tools/(\w+\.py)", (ROOT / "tools" / "test.sh").read_text()):
         room.write(f"tools/{name}", f"import sys; print('{name} was made'); sys.exit(77 if sys.argv[-1] in {lacks!r} else {int(name in fails)})\n")
     room.write("tools/compare.sh", f'echo "compare $1 was made, build $CABIN_BUILD"; case " {" ".join(fails)} " in *" $1 "*) exit 1 ;; esac\n')
+    room.write("tools/library.sh", 'echo "library $1 was made"\n')
     status, wrote, _said = room.front("test", **more)
     return status, (wrote or b"").decode().split("\n")[:-1]
 
