@@ -6,6 +6,7 @@
 #include "conic.h"
 #include "desk.h"
 #include "files.h"
+#include "pen.h"
 #include "programs.h"
 #include "session.h"
 #include "settings.h"
@@ -310,17 +311,26 @@ versioned go_back(settings *s, size_t size, uint64_t number)
     return stored(s, refused, &l);
 }
 
+/* The library has no `why`: requests that ask it are not put to the driver. */
+void say_why(pen *p, const request *asked, const settings *kept)
+{
+    (void)asked;
+    (void)kept;
+    say(p, "not in the library");
+}
+
 /* The driver: the second program's own programs, but for those that make requests and sessions. */
 
 static int desk(void)
 {
     char line[LINE_MAX], answer[ANSWER_MAX];
+    const settings none = { NULL, 0 };
     for (long length; (length = take_line(line, sizeof line)) >= 0;) {
         request asked;
         int unread = read_request(line, (size_t)length, &asked);
         if (unread == NOTHING)
             continue;
-        answer_line(unread, &asked, answer);
+        answer_line(unread, &asked, &none, answer);
         puts(answer);
     }
     return 0;
