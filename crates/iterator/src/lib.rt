@@ -4,7 +4,7 @@ ghost use mathlib.Core.Path.{_≡_};
 ghost use Prim.Native.Nat.{_<_};
 ghost use Rattle.iterator.specs.Judged.{inTime, judgedOf};
 ghost use Rattle.iterator.specs.Rule.{Grid, widthOf, within, secantOf, strideOf, pointOf};
-ghost use Rattle.iterator.specs.Same.{sameTime, kindOf, carriedOf, sameAs};
+ghost use Rattle.iterator.specs.Same.{sameTime, kindOf, hasTime, carriedOf, sameAs};
 ghost use Rattle.iterator.specs.Single.{timeFinite, allFinite, inGrid, timeInTime, allInTime};
 ghost use Rattle.iterator.specs.Single.{isBelow, agrees, endsAgree, soundOf, nextTrialOf, trialOf, moreLeft};
 
@@ -91,7 +91,7 @@ fn secant(asked: f64, w: u64, below: f64, above: f64) -> u64
     ensures { λ r. ⌜ r ≡ secantOf asked w below above ⌝ }
 {
     let q = (asked - below) / (above - below);
-    brought(real::cut(q * std::num::nearest_u64_to_f64(w)), w)
+    brought(real::cut(q * real::nearest_whole(w)), w)
 }
 
 // How far above lo the k-th trial lies, in a bracket w wide.
@@ -297,7 +297,20 @@ fn kind(j: Judgement) -> u64
     }
 }
 
-fn carried(j: Judgement) -> f64
+// A judgement carries a time: low and high do.
+pub fn has_time(j: Judgement) -> bool
+    ensures { λ r. ⌜ r ≡ hasTime j ⌝ }
+{
+    match j {
+        Judgement::Low(_) => true,
+        Judgement::High(_) => true,
+        Judgement::Under => false,
+        Judgement::Over => false,
+    }
+}
+
+// The time that it carries; 0 where it carries none.
+pub fn carried(j: Judgement) -> f64
     ensures { λ r. ⌜ r ≡ carriedOf j ⌝ }
 {
     match j {

@@ -4,3 +4,4 @@ pub mod Bounds
 pub mod Powers
 pub mod Finite
 pub mod Tests
+mod Wholes
