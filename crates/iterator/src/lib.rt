@@ -71,23 +71,24 @@ pub fn judged(asked: f64, t: f64) -> Judgement
     Judgement::High(t)
 }
 
-// d brought into 1..w-1.
+// d brought into 1..w-1; 1 where there is nothing between.
 fn brought(d: u64, w: u64) -> u64
-    requires { ⌜ 1 < w ⌝ }
     ensures { λ r. ⌜ r ≡ within d w ⌝ }
 {
     if d < 1 {
         return 1;
     }
-    if w - 1 < d {
-        return w - 1;
+    if d < w {
+        return d;
     }
-    d
+    if w < 2 {
+        return 1;
+    }
+    w - 1
 }
 
 // By the times at the two ends: q of the way, cut to a whole number.
 fn secant(asked: f64, w: u64, below: f64, above: f64) -> u64
-    requires { ⌜ 1 < w ⌝ }
     ensures { λ r. ⌜ r ≡ secantOf asked w below above ⌝ }
 {
     let q = (asked - below) / (above - below);
@@ -95,8 +96,7 @@ fn secant(asked: f64, w: u64, below: f64, above: f64) -> u64
 }
 
 // How far above lo the k-th trial lies, in a bracket w wide.
-fn stride(asked: f64, w: u64, below: Judgement, above: Judgement, k: u64) -> u64
-    requires { ⌜ 1 < w ⌝ }
+pub fn stride(asked: f64, w: u64, below: Judgement, above: Judgement, k: u64) -> u64
     ensures { λ r. ⌜ r ≡ strideOf asked w below above k ⌝ }
 {
     if k % 2 == 0 {
@@ -234,9 +234,9 @@ fn sound(asked: f64, lo: i64, hi: i64, below: Judgement, above: Judgement) -> bo
     ends_agree(asked, below, above)
 }
 
-// The k-th trial of a run, whose judgements are taken as they are: its point, or at hi - lo = 1 that none is left.
-// Only the ends are tested, for the grid.
-pub fn next_trial(asked: f64, lo: i64, hi: i64, below: Judgement, above: Judgement, k: u64) -> Tried
+// The k-th trial, with the judgements taken as they are: its point, or at hi - lo = 1 that none is left. Only the ends are
+// tested, for the grid.
+fn next_trial(asked: f64, lo: i64, hi: i64, below: Judgement, above: Judgement, k: u64) -> Tried
     ensures { λ r. ⌜ r ≡ nextTrialOf asked lo hi below above k ⌝ }
 {
     if !in_grid(lo, hi) {
