@@ -9,7 +9,7 @@ use mathlib.Core.Bool.{Bool, true, false, cond}
 use lib.ListN.{length, length-append}
 use lib.Dec.{ltb}
 use borrow.Author.Tests.{lt-ltb, le-ltb, ltb-true, ltb-false}
-use Rattle.text.specs.Text.{digitText, digits, decimal}
+use Rattle.text.specs.Text.{digits, decimal}
 
 -- n below ten to the k has at most k digits
 few : (f k n : ℕ) (b : Bool) → ((j : ℕ) → n / 10 < 10 ^ suc j → length (digits f (n / 10)) ≤ suc j) → ltb n 10 ≡ b → n < 10 ^ suc k
@@ -24,13 +24,6 @@ pub short : (f k n : ℕ) → n < 10 ^ suc k → length (digits f n) ≤ suc k
 unfolding digits
 short zero k n h = zero-le
 short (suc f) k n h = few f k n (ltb n 10) (λ j q. short f j (n / 10) q) refl h
-
--- a digit under ten
-pub decimal-digit : (d : ℕ) → d < 10 → digitText (d % 16) ≡ 48 + d
-unfolding digitText
-decimal-digit d h =
-    let e : d % 16 ≡ d = omega arith in
-    rw (e, lt-ltb d 10 h) refl
 
 -- the digits of n: none, one, or one more
 pub digits-none : (k n : ℕ) → k ≡ 0 → digits k n ≡ []

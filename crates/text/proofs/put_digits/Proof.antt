@@ -4,7 +4,6 @@ use native.Mathlib.Nat.{add-zero}
 use native.Mathlib.Omega.{arith}
 use mathlib.Core.Path.{_≡_, refl, sym, ap, _∙_}
 use mathlib.Core.List.{List}
-use denote.Ref.{now}
 use lib.ListN.{length, length-set}
 use Rattle.text.specs.Text.{Stands, decimal}
 use Rattle.text.proofs.Stand.{none, last-first}
