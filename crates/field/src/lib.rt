@@ -18,6 +18,11 @@ pub fn read(s: &[u8], at: usize, w: usize) -> u64
         return 0;
     }
     let n = least(least(w, 8), s.len() - at);
+    if n == 8 {
+        // by itself, so that the compiler makes one load of it
+        let end = at + 8;
+        return le_of(&s[at..end]);
+    }
     let e = at + n;
     le_of(&s[at..e])
 }
