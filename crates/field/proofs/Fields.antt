@@ -1,17 +1,18 @@
 -- Laws of little-endian fields and of two's complement. Assumes nothing.
-use Prim.Native.Nat.{ℕ, zero, suc, _+_, _-_, _*_, _^_, _≤_, _<_}
-use native.Mathlib.Nat.{pow-suc, pow-le-pow-right, zero-add, le-refl}
+use Prim.Native.Nat.{ℕ, suc, _+_, _-_, _*_, _^_, _≤_, _<_}
+use native.Mathlib.Nat.{pow-suc, pow-le-pow-right, le-refl}
 use native.Mathlib.Omega.{arith}
-use mathlib.Core.Path.{_≡_, refl, ap, _∙_}
+use mathlib.Core.Path.{_≡_, ap, _∙_}
 use mathlib.Core.List.{List}
 use lib.ListN.{length, getD, take, drop, length-drop}
 use lib.Seq.{drop-cons, take-all}
 use lib.Arith.{digits-lt}
 use lib.Dec.{lit<}
-use lib.IntN.{ℤ, pos, negsuc, _-ℤ_}
+use lib.IntN.{ℤ, negsuc, _-ℤ_}
 use mir.Syntax.{Width}
 use mir.Val.{toZ, hbits}
 use mir.Facts.{toZ-pos}
+use Rattle.text.proofs.Signs.{minus-one}
 use Rattle.field.specs.Bytes.{le}
 
 -- one byte more in front
@@ -32,10 +33,6 @@ bound-seven k i v h l x =
     omega (arith, pow-le-pow-right {n = 256} (lit< tt) e)
 
 -- the upper half of the bits of a width, read as signed, by the distance from the top
-minus-one : (k : ℕ) → negsuc 0 -ℤ pos k ≡ negsuc k
-minus-one zero = refl
-minus-one (suc k) = ap (λ (n : ℕ). negsuc (suc n)) (zero-add k)
-
 pub turned : (w : Width) (m n : ℕ) → m - n < 2 ^ hbits w → negsuc 0 -ℤ toZ w (m - n) ≡ negsuc (suc m - suc n)
 turned w m n h =
     let e : m - n ≡ suc m - suc n = omega arith in

@@ -1,5 +1,5 @@
 -- Laws of the last k digits of a number. Assumes nothing.
-use Prim.Native.Nat.{ℕ, zero, suc, _+_, _-_, _/_, _%_, _^_, _≤_, _<_, zero-le, suc-le-suc}
+use Prim.Native.Nat.{ℕ, zero, suc, _+_, _-_, _/_, _%_, _^_, _≤_, _<_}
 use native.Mathlib.Nat.{mod-lt}
 use native.Mathlib.Omega.{arith}
 use mathlib.Core.Path.{_≡_, refl, sym, ap, _∙_}
@@ -29,10 +29,6 @@ unfolding places
 places-length base zero n = refl
 places-length base (suc k) n =
     length-append (places base k (n / base)) (digitText (n % base) ∷ []) ∙ omega (arith, places-length base k (n / base))
-
-pub nonzero : (k : ℕ) → (k ≡ 0 → ⊥) → 1 ≤ k
-nonzero zero z = absurd (z refl)
-nonzero (suc k) z = suc-le-suc zero-le
 
 small : (d : ℕ) → d < 16 → d % 16 ≡ d
 small d h = omega arith

@@ -3,4 +3,5 @@ pub mod CutLaws
 pub mod Bounds
 pub mod Powers
 pub mod Finite
-pub mod Tests
+pub mod Patterns
+pub mod Order

@@ -22,7 +22,7 @@ use Rattle.stream.specs.declared.Standing.{Standing}
 use Rattle.stream.specs.declared.Standing.the-variants.{Open, Refused, Ended}
 use Rattle.stream.specs.declared.Step.{Step}
 use Rattle.stream.specs.declared.Step.the-variants as S
-use Rattle.stream.specs.Stream.{Ending, ended, refused, Run, stop, behind, joined, wholeOf, Reader, reading, stopped, Move, got, set, none, limit, foundAt, seen, moveFor, moveOf, endOf, concat, standingOf, isSound, stepIn, put, roomOn, stepOn, stepOpen, roomOpen, stepOf, roomOf, finishOf}
+use Rattle.stream.specs.Stream.{Ending, ended, refused, Run, stop, joined, wholeOf, Reader, reading, stopped, Move, got, set, none, limit, foundAt, seen, moveFor, moveOf, endOf, concat, standingOf, isSound, stepIn, put, roomOn, stepOn, stepOpen, roomOpen, stepOf, roomOf, finishOf}
 use Rattle.stream.specs.Calls.{Calls, last, next, sets, endIn, Session, done, more}
 use Rattle.stream.proofs.Parts.{leftOf, Kept, taken, Goes, Stays, After, move-law, end-law, joins, all-seen}
 use Rattle.stream.proofs.Steps.{take-most}

@@ -1,12 +1,13 @@
 -- `put_places`: the last digit stands behind the others, by recursion on their number.
-use Prim.Native.Nat.{ℕ, _<_, _-_, _/_}
+use Prim.Native.Nat.{ℕ, _-_, _/_, _<_}
 use native.Mathlib.Omega.{arith}
 use mathlib.Core.Path.{_∙_}
 use denote.Ref.{now}
 use borrow.Fn.Kinds.{In}
 use borrow.Fn.PlainCycle.{Measures, is, falls, and}
+use Rattle.facts.proofs.Wholes.{nonzero}
 use Rattle.text.proofs.Stand.{then, none, same-size}
-use Rattle.figures.proofs.Places.{places-none, places-more, places-length, last-digit, nonzero}
+use Rattle.figures.proofs.Places.{places-none, places-more, places-length, last-digit}
 use Rattle.figures.proofs.+put_places.{statement}
 use Rattle.figures.proofs.+put_places.Tie.{close}
 use Rattle.figures.proofs.put_places.Reads as put-places

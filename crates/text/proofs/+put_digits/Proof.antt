@@ -3,8 +3,9 @@ use native.Mathlib.Omega.{arith}
 use mathlib.Core.Path.{ap, _∙_}
 use denote.Ref.{now}
 use lib.ListN.{length}
+use Rattle.facts.proofs.Wholes.{nonzero}
 use Rattle.text.proofs.Stand.{then, none, same-size}
-use Rattle.text.proofs.Decimals.{nonzero, decimal-digit, digits-none, digits-one, digits-more, digits-longer}
+use Rattle.text.proofs.Decimals.{decimal-digit, digits-none, digits-one, digits-more, digits-longer}
 use Prim.Native.Nat.{ℕ, _%_, _<_}
 use borrow.Fn.Kinds.{In}
 use borrow.Fn.PlainCycle.{Measures, is, falls, and}
