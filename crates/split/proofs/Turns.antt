@@ -26,7 +26,7 @@ pub record Passed (d : List ℕ) (kept : ℕ) (part : List ℕ) (from : ℕ) (e 
 
 pub begin : (d part : List ℕ) (kept from : ℕ) → Passed d kept part from d kept from
 begin d part kept from =
-    let z = take-nil (length d - kept) in
+    let z = take-nil {A = ℕ} (length d - kept) in
     record {
       y = [];
       whole = refl;

@@ -1,4 +1,4 @@
--- The tests of an open reader, and what they leave. Assumes take-nil.
+-- The tests of an open reader, and what they leave. Assumes nothing.
 use Prim.Native.Nat.{ℕ, _+_, _-_, _≤_, _<_}
 use native.Mathlib.Nat.{add-zero}
 use native.Mathlib.Omega.{arith}
@@ -6,7 +6,7 @@ use mathlib.Core.Path.{_≡_, refl, sym, ap, _∙_}
 use mathlib.Core.List.{List, [], _++_, append-nil}
 use mathlib.Core.Bool.{Bool, true, false}
 use lib.ListN.{length, take, drop, length-drop, take-append-drop}
-use lib.Seq.{length-take-le}
+use lib.Seq.{length-take-le, take-nil}
 use lib.Dec.{ltb, eqb}
 use borrow.Author.Tests.{lt-ltb, le-ltb, ltb-true, ltb-false}
 use Rattle.facts.proofs.Truth.{each}
@@ -95,10 +95,10 @@ module _ (p : Place) (k : ℕ) (d : List ℕ) where
         let z : length (take k d ++ []) ≡ k = ap length (append-nil (take k d)) ∙ length-take-le k d (omega (arith, s .fits)) in (
           ap (λ (j : ℕ). S.Stopped (Open p j)) (sym z)
               ∙ sym (ap (λ (r : List ℕ). stepIn from (moveFor (foundAt p (take k d ++ take (62 - length (take k d)) r)) p (take k d) r)) e
-              ∙ ap (λ (r : List ℕ). stepIn from (moveFor (foundAt p (take k d ++ r)) p (take k d) [])) (take-nil (62 - length (take k d)))
+              ∙ ap (λ (r : List ℕ). stepIn from (moveFor (foundAt p (take k d ++ r)) p (take k d) [])) (take-nil {A = ℕ} (62 - length (take k d)))
               ∙ ap (λ (q : Decoded). stepIn from (moveFor q p (take k d) [])) a),
           sym (ap (λ (r : List ℕ). take k d ++ (take (62 - k) r ++ drop (k + length (take (62 - k) r)) d)) e
-              ∙ ap (λ (r : List ℕ). take k d ++ (r ++ drop (k + length r) d)) (take-nil (62 - k))
+              ∙ ap (λ (r : List ℕ). take k d ++ (r ++ drop (k + length r) d)) (take-nil {A = ℕ} (62 - k))
               ∙ ap (λ (j : ℕ). take k d ++ drop j d) (add-zero k)
               ∙ take-append-drop k d),
         )

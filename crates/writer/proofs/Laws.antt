@@ -64,15 +64,6 @@ allowed-by r {v} {b} {t} {f} a c d e =
     ∙ ap (λ (x : Bool). v && b && x && allFinite (numbersIn r)) d
     ∙ ap (λ (x : Bool). v && b && t && x) e
 
--- the bits of each half of the signed numbers
-pub bits-neg : (z : ℤ) → negative z ≡ true → 18446744073709551615 - mag z ≡ bitsOf z
-bits-neg (pos n) h = absurd (true≢false (sym h))
-bits-neg (negsuc n) h = omega arith
-
-pub bits-pos : (z : ℤ) → negative z ≡ false → mag z ≡ bitsOf z
-bits-pos (pos n) h = refl
-bits-pos (negsuc n) h = absurd (true≢false h)
-
 -- the last 16 of the 64 bits of a small number
 pub short-own : (z : ℤ) → mag z < 32768 → bitsOf z % 65536 ≡ shortBits z
 short-own (pos n) h = omega arith

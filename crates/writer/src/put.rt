@@ -3,10 +3,8 @@ ghost use Prim.Native.Nat.{_+_, _≤_};
 ghost use mathlib.Core.Path.{_≡_};
 ghost use lib.ListN.{length};
 ghost use lib.Ieee.{toBits, binary64};
-ghost use Rattle.field.specs.Bytes.{bytesLe, bitsOf, shortBits};
+ghost use Rattle.field.specs.Bytes.{bytesLe, shortBits};
 ghost use Rattle.text.specs.Text.{Stands};
-use text::is_negative;
-use text::magnitude;
 
 // The w bytes of n from o on, the least significant first, where they are known to fit.
 pub fn put_field(buf: &mut [u8], o: usize, n: u64, w: usize) -> usize
@@ -16,22 +14,11 @@ pub fn put_field(buf: &mut [u8], o: usize, n: u64, w: usize) -> usize
     field::put(buf, o, n, w)
 }
 
-// The 64 bits of a signed number.
-pub fn bits_of(z: i64) -> u64
-    ensures { λ r. ⌜ r ≡ bitsOf z ⌝ }
-{
-    let m = magnitude(z);
-    if is_negative(z) {
-        return 0xffff_ffff_ffff_ffff - m;
-    }
-    m
-}
-
 // The 16 bits of a signed number.
 pub fn short_bits(z: i16) -> u64
     ensures { λ r. ⌜ r ≡ shortBits z ⌝ }
 {
-    bits_of(z as i64) % 65536
+    field::bits_of(z as i64) % 65536
 }
 
 // The bits of a number, where they are known to fit.

@@ -9,7 +9,6 @@ ghost use Rattle.text.specs.Text.{Stands};
 ghost use Rattle.writer.specs.Write.{hasRoom, restBytes, writtenOf, bufferOf};
 use crate::numbers::are_finite;
 use crate::numbers::put_numbers;
-use crate::put::bits_of;
 use crate::put::put_field;
 use session::Record;
 use session::time_allowed;
@@ -103,7 +102,7 @@ fn put_record(buf: &mut [u8], at: usize, r: Record) -> usize
 {
     let h = header_of(r);
     let n = h.length;
-    let time = bits_of(h.time);
+    let time = field::bits_of(h.time);
     let c = put_rest(buf, at + 2, h.number, h.vehicle, h.byte, time);
     put_numbers(&mut buf[c..], r);
     put_field(buf, at, n as u64, 2);

@@ -1,5 +1,6 @@
 -- What fits is put. Assumes nothing.
 use native.Mathlib.Omega.{arith}
+use Rattle.text.proofs.Puts.{put-size}
 use Rattle.field.proofs.Bytes.{bytes-length}
 use borrow.Author.Needs.{needs}
 use Rattle.writer.proofs.put.put_field.Statement.{statement}
@@ -9,10 +10,13 @@ put-requires : tie.Need-put-requires
 put-requires c κs = search needs
 
 same-length : tie.Need-same-length
-same-length c = ?
+same-length c = put-size (c .before .before .put .ensures)
 
 returns : tie.Need-returns
-returns c = ?
+returns c =
+    let s = c .before .before .before .before .before in
+    let a = s .args in
+    c .before .before .put .ensures .fits (omega (arith, s .pre, bytes-length (a .w) (a .n)))
 
 pub put-field-spec : {M : Type 1} → statement M
 put-field-spec = tie.close (tie.spec put-requires same-length returns)
