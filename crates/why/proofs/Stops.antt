@@ -7,6 +7,7 @@ use borrow.Author.Tests.{not-true}
 use lib.IntN.{ℤ}
 use lib.Signed.{ltZ}
 use lib.Ieee.{Float, nan, inf, fin, lt, le, eq, neg, ofBits}
+use Rattle.real.proofs.Order.{under-not, at-most-not}
 use Rattle.facts.proofs.Truth.{and-1}
 use Rattle.facts.proofs.Wholes.{zero-one}
 use Rattle.real.specs.F64.{_⊕_, _⊖_, _⊗_, _≤ᶠ_, _<ᶠ_, two^, f0, finite}
@@ -43,7 +44,7 @@ use Rattle.problem.specs.Stops.{rangeAt, stopBy, stopOf}
 use Rattle.problem.specs.declared.Problem.{Problem}
 use Rattle.problem.specs.declared.Problem.the-variants.{Kepler, Lambert}
 use Rattle.reason.specs.declared.Stop.the-variants as S
-use Rattle.why.proofs.Order.{under-not, at-most-not, out-of-time}
+use Rattle.why.proofs.Order.{out-of-time}
 
 -- it fails, and has this number
 abbrev pub Fails : ℕ → Entry → Type 0
