@@ -1,7 +1,6 @@
 -- What becomes of the buffer, by case; and an answer of whole numbers alone. Assumes nothing.
-use Prim.Native.Nat.{ℕ, _+_, _≤_}
-use native.Mathlib.Omega.{arith}
-use mathlib.Core.Path.{_≡_, refl, _∙_}
+use Prim.Native.Nat.{ℕ, _+_}
+use mathlib.Core.Path.{_≡_, refl}
 use mathlib.Core.Bool.{Bool, true, false, cond, not}
 use mathlib.Core.List.{List, []}
 use lib.IntN.{ℤ}
@@ -10,12 +9,12 @@ use lib.Ieee.{Float}
 use Rattle.session.specs.declared.record.Record.{Record}
 use Rattle.session.specs.declared.record.Record.the-variants as K
 use Rattle.session.specs.Kinds.{lengthOf}
-use Rattle.session.specs.Layout.{kindIn, numbersIn, bytesOf}
+use Rattle.session.specs.Layout.{kindIn}
 use Rattle.session.specs.Offset.{offsetBytes}
 use Rattle.session.specs.Decode.{allowedIn}
 use Rattle.writer.specs.declared.record.Written.the-variants as W
 use Rattle.writer.specs.Write.{hasRoom, writtenOf, bufferOf, offsetMay, offsetWritten, offsetBuffer}
-use Rattle.lent.specs.Given.{Told, answer, refused, roomFor, numberOf, numbersAfter, wholesAfter, bytesAfter, putIn, Given, GivenWholes}
+use Rattle.lent.specs.Given.{Told, answer, refused, roomFor, numbersAfter, bytesAfter, putIn, Given}
 use Rattle.lent.proofs.Gives.{Fit, put-wholes}
 use Rattle.session.specs.declared.record.Kind.{Kind}
 use Rattle.session.specs.declared.record.Kind.the-variants.{State, Burn, Mark}
@@ -31,11 +30,6 @@ use lib.Dec.{ltb}
 pub put-none : {zs w v : List ℕ} {d : List Float} → v ≡ putIn zs w → Fit zs w → Given (answer [] zs) d w d v 0
 unfolding numbersAfter
 put-none {zs} q f = let g = put-wholes {xs = []} {zs = zs} q f in record { number = g .number; numbers = refl; wholes = g .wholes }
-
-pub numbers-few : (r : Record) → length (numbersIn r) ≤ 6
-numbers-few (K.State r) = omega arith
-numbers-few (K.Burn r) = omega arith
-numbers-few (K.Mark r) = omega arith
 
 pub short-bytes : (t : Told) (e d : List ℕ) → d ≡ bytesAfter (roomFor false t) e d
 unfolding roomFor bytesAfter

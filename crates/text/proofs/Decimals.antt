@@ -42,10 +42,6 @@ digits-more (suc k) n z h =
     let e : k ≡ suc k - 1 = omega arith in
     simp (le-ltb n 10 h) (ap (λ (j : ℕ). digits j (n / 10) ++ ((48 + n % 10) ∷ [])) e)
 
-pub nonzero : (k : ℕ) → (k ≡ 0 → ⊥) → 1 ≤ k
-nonzero zero z = absurd (z refl)
-nonzero (suc k) z = suc-le-suc zero-le
-
 pub digits-longer : (k n : ℕ) → (k ≡ 0 → ⊥) → 10 ≤ n → length (digits k n) ≡ length (digits (k - 1) (n / 10)) + 1
 digits-longer k n z h = ap length (digits-more k n z h) ∙ length-append (digits (k - 1) (n / 10)) ((48 + n % 10) ∷ [])
 

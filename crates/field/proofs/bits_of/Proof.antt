@@ -6,10 +6,10 @@ use Prim.Native.Nat.{ℕ, _-_}
 use mathlib.Core.Path.{_≡_, sym, ap, _∙_}
 use mathlib.Core.Bool.{true, false}
 use Rattle.text.specs.Sign.{negative}
-use Rattle.writer.proofs.Laws.{bits-neg, bits-pos}
+use Rattle.field.proofs.Fields.{bits-neg, bits-pos}
 use borrow.Author.Needs.{needs}
-use Rattle.writer.proofs.put.bits_of.Statement.{statement}
-use Rattle.writer.proofs.put.bits_of.Tie as tie
+use Rattle.field.proofs.bits_of.Statement.{statement}
+use Rattle.field.proofs.bits_of.Tie as tie
 
 magnitude-requires : tie.Need-magnitude-requires
 magnitude-requires c κs = search needs

@@ -1,9 +1,9 @@
 -- The word, read. Assumes nothing.
 use mathlib.Core.Path.{ap, _∙_}
-use Rattle.numerals.specs.Numbers.{wholeOf}
 use borrow.Author.Needs.{needs}
-use Rattle.entry.proofs.parts.whole_at.Statement.{statement}
-use Rattle.entry.proofs.parts.whole_at.Tie as tie
+use Rattle.numerals.specs.Numbers.{wholeOf}
+use Rattle.numerals.proofs.places.whole_at.Statement.{statement}
+use Rattle.numerals.proofs.places.whole_at.Tie as tie
 
 word-requires : tie.Need-word-requires
 word-requires c κs = search needs

@@ -1,9 +1,9 @@
 -- The word, read. Assumes nothing.
 use mathlib.Core.Path.{ap, _∙_}
-use Rattle.numerals.specs.Numbers.{signedOf}
 use borrow.Author.Needs.{needs}
-use Rattle.forms.proofs.parts.signed_at.Statement.{statement}
-use Rattle.forms.proofs.parts.signed_at.Tie as tie
+use Rattle.numerals.specs.Numbers.{signedOf}
+use Rattle.numerals.proofs.places.signed_at.Statement.{statement}
+use Rattle.numerals.proofs.places.signed_at.Tie as tie
 
 word-requires : tie.Need-word-requires
 word-requires c κs = search needs

@@ -1,4 +1,4 @@
--- Which 64 bits are those of a NaN. Assumes nothing.
+-- Which 64 bits are those of a NaN, and what is no NaN. Assumes nothing.
 use Prim.Native.Nat.{ℕ, _%_, _≤_, _<_}
 use mathlib.Core.Path.{_≡_, refl, sym, ap, _∙_, subst}
 use mathlib.Core.Bool.{true, false, not, true≢false}
@@ -7,8 +7,9 @@ use lib.Ieee.{Float, nan, inf, fin, binary64, div, ofBits, ofFields, toBits, odd
 use lib.Ieee.Compare.{differs-from-itself}
 use lib.Ieee.Bits.{nanBits-is, nanBits-above}
 use borrow.Author.Tests.{lt-ltb, le-ltb}
+use Rattle.real.specs.F64.{finite}
 
-quiet : div binary64 (ofBits binary64 0) (ofBits binary64 0) ≡ nan
+pub quiet : div binary64 (ofBits binary64 0) (ofBits binary64 0) ≡ nan
 unfolding div ofBits ofFields odd
 quiet = refl
 
@@ -29,8 +30,15 @@ pub nan-pattern : (x : Float) → ne x x ≡ true → toBits binary64 x ≡ 9221
 unfolding toBits
 nan-pattern x e = ap (toBits binary64) (differs-from-itself x (subst T (sym e) tt))
 
-pub no-nan : (x : Float) → ne x x ≡ false → T (not (isNan x))
+-- and what does not is none
+pub not-nan : (x : Float) → ne x x ≡ false → T (not (isNan x))
 unfolding ne isNan
-no-nan nan e = absurd (true≢false e)
-no-nan (inf s) e = tt
-no-nan (fin s m e) h = tt
+not-nan nan e = absurd (true≢false e)
+not-nan (inf s) e = tt
+not-nan (fin s m e) h = tt
+
+pub finite-not-nan : (x : Float) → finite x ≡ true → T (not (isNan x))
+unfolding isNan
+finite-not-nan nan h = absurd (true≢false (sym h))
+finite-not-nan (inf s) h = tt
+finite-not-nan (fin s m e) h = tt

@@ -5,8 +5,8 @@ use mathlib.Core.List.{List}
 use lib.ListN.{length}
 use lib.Dec.{eqb}
 use borrow.Author.Needs.{needs}
-use Rattle.forms.proofs.parts.is_end.Statement.{statement}
-use Rattle.forms.proofs.parts.is_end.Tie as tie
+use Rattle.words.proofs.is_end.Statement.{statement}
+use Rattle.words.proofs.is_end.Tie as tie
 
 word-requires : tie.Need-word-requires
 word-requires c κs = search needs
