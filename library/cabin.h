@@ -95,6 +95,49 @@ uint32_t cabin_transfer_velocity(double mu, const double *first, size_t first_co
                                  size_t second_count, uint64_t way, const double *normal, size_t normal_count, double t,
                                  double *out, size_t out_count, int64_t *whole, size_t whole_count);
 
+/* The same two solves with a limit on the count of trials, going on where a run was stopped.
+ *
+ * `from` is a stopped run, 5 whole numbers: lo, its judgement, hi, its judgement, the count of trials made; `times` are 2
+ * doubles, the times of the two judgements, each looked at for CABIN_LOW and CABIN_HIGH alone. With from_count 0 the trials
+ * begin at the start, and NULL, 0 will do for both. The limit is on the whole count; UINT64_MAX is none.
+ *
+ * A run that the limit stops is an answer with a case of its own, so that it can be gone on with. Writes 1 whole number, the
+ * case, and then:
+ *     CABIN_FOUND: the numbers and whole numbers of cabin_advance or cabin_transfer_velocity;
+ *     CABIN_NOT_FINISHED: the 5 whole numbers of the stopped run, and 2 doubles, its times, +0 for a judgement that has none.
+ * What is written may not overlap what is read: copy a run before it is handed in again.
+ * Refusals: those of the solve; 6 also for a run that trials of this solve cannot have been stopped at; 14 also for a
+ * judgement over CABIN_OVER; 15 also for a run of 1 to 4 whole numbers, or with fewer than 2 times.
+ *     double from[6] = { 4194304, 0, 0, 0, 32, 0 }, out[8], times[2];
+ *     int64_t whole[6], run[5];
+ *     size_t runs = 0;
+ *     for (uint64_t limit = 4; cabin_advance_within(4294967296.0, from, 6, 64.0, times, 2, run, runs, limit, out, 8, whole, 6) == 0
+ *                              && whole[0] == CABIN_NOT_FINISHED; limit += 4) {
+ *         memcpy(run, whole + 1, sizeof run), memcpy(times, out, sizeof times);
+ *         runs = 5;
+ *     } */
+enum { CABIN_FOUND = 0, CABIN_NOT_FINISHED = 1 };
+
+uint32_t cabin_advance_within(double mu, const double *state, size_t state_count, double t, const double *times,
+                              size_t times_count, const int64_t *from, size_t from_count, uint64_t limit, double *out,
+                              size_t out_count, int64_t *whole, size_t whole_count);
+uint32_t cabin_transfer_velocity_within(double mu, const double *first, size_t first_count, const double *second,
+                                        size_t second_count, uint64_t way, const double *normal, size_t normal_count, double t,
+                                        const double *times, size_t times_count, const int64_t *from, size_t from_count,
+                                        uint64_t limit, double *out, size_t out_count, int64_t *whole, size_t whole_count);
+
+/* The same with the grade by the two fractions of version k of settings (below, `used`). Refusals: also 23 no such version,
+ * 30 the used part is no settings; these two come ahead of the solve's own. */
+uint32_t cabin_advance_by(const uint8_t *used, size_t used_count, uint64_t k, double mu, const double *state,
+                          size_t state_count, double t, const double *times, size_t times_count, const int64_t *from,
+                          size_t from_count, uint64_t limit, double *out, size_t out_count, int64_t *whole,
+                          size_t whole_count);
+uint32_t cabin_transfer_velocity_by(const uint8_t *used, size_t used_count, uint64_t k, double mu, const double *first,
+                                    size_t first_count, const double *second, size_t second_count, uint64_t way,
+                                    const double *normal, size_t normal_count, double t, const double *times,
+                                    size_t times_count, const int64_t *from, size_t from_count, uint64_t limit, double *out,
+                                    size_t out_count, int64_t *whole, size_t whole_count);
+
 /* The time from a state to the end of an angle, given by its sine and cosine. Writes 1 double. Refusals: 1 to 4, 6 to 8, 10,
  * 15, 19.
  *     double from[6] = { 4194304, 0, 0, 0, 32, 0 }, time;

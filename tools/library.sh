@@ -46,17 +46,20 @@ requests() {
     make -s -C second
     target/second/second requests "$seed" 20000 | grep -avE "$not_yet" >"$room/requests"
     ask_both
+    stand_in
+    echo "500 solves stopped and gone on with, seed $seed"
+    python3 tools/continue.py "${start[*]} ${program[desk]}" "$home/$room/stand_in desk" 500 "$seed"
 }
 
 # What stands in the second program's place where ./cabin is compared: the driver, and the second program where it makes
-# sessions and texts.
+# requests, sessions and texts.
 stand_in() {
     build_driver "$room" -O2
     make -s -C second
     cat >"$room/stand_in" <<END
 #!/bin/sh
 case \$1 in
-sessions | texts) exec "$home/target/second/second" "\$@" ;;
+requests | sessions | texts) exec "$home/target/second/second" "\$@" ;;
 *) exec ${emulator[*]} "$home/$room/by_library" "\$@" ;;
 esac
 END
@@ -95,7 +98,7 @@ versions() {
 }
 
 # Requests that the library does not have.
-not_yet='[[:space:]](from|limit|version)[[:space:]]|^[[:space:]]*why'
+not_yet='^[[:space:]]*why'
 
 mkdir -p "$room"
 ./cabin library "$room"
