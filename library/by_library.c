@@ -8,6 +8,7 @@
 #include "files.h"
 #include "pen.h"
 #include "programs.h"
+#include "replay.h"
 #include "session.h"
 #include "settings.h"
 #include "sight.h"
@@ -305,6 +306,29 @@ writing append_record(uint8_t *buffer, size_t size, size_t used, const record *r
     return (writing){ checked(refused, &l, 0, 1), refused ? used : (size_t)l.whole[0] };
 }
 
+/* A session flown again */
+
+replayed take_record(replay *m, const record *r)
+{
+    lent l FRESH;
+    for (int k = 0; k < 2; k++) {
+        const vehicle *v = &m->vehicles[k];
+        memcpy(l.whole + 1 + 3 * k, (const int64_t[]){ v->set, (int64_t)v->body, v->time }, 3 * sizeof(int64_t));
+        memcpy(l.numbers + 6 * k, ((const double[]){ v->at.r.x, v->at.r.y, v->at.r.z, v->at.v.x, v->at.v.y, v->at.v.z }), 6 * sizeof(double));
+    }
+    lent before = l;
+    uint32_t refused = cabin_replay_step(m->mu[0], m->mu[1], (uint64_t)r->kind, (uint8_t)r->vehicle, (uint8_t)r->byte, r->time, r->numbers,
+                                         (size_t)numbers_of(r->kind), l.numbers, 13, l.whole, 7);
+    if (refused && memcmp(&before, &l, sizeof l) != 0)
+        checked(refused, &l, 0, 0); /* which ends the driver: it is not as it was */
+    for (int k = 0; !refused && k < 2; k++) {
+        const int64_t *w = l.whole + 1 + 3 * k;
+        const double *x = l.numbers + 6 * k;
+        m->vehicles[k] = (vehicle){ w[0] == 1, (uint64_t)w[1], w[2], { vector_of(x), vector_of(x + 3) } };
+    }
+    return (replayed){ (int)refused, l.numbers[12] };
+}
+
 /* The listing */
 
 enum { LINE = 40 };
@@ -371,24 +395,47 @@ versioned go_back(settings *s, size_t size, uint64_t number)
     return stored(s, refused, &l);
 }
 
-/* The library has no `why`: requests that ask it are not put to the driver. */
+/* The desk in text. `why` is asked so, of the line that is in hand. */
+
+enum { TEXT = 512 };
+
+static const char *in_hand;
+static size_t in_hand_length;
+
+static int ask(const settings *kept, char answer[TEXT])
+{
+    lent l FRESH;
+    memset(answer, '#', TEXT);
+    checked(cabin_ask(kept->bytes, kept->used, (const uint8_t *)in_hand, in_hand_length, (uint8_t *)answer, TEXT, l.whole, 1), &l, 0, 1);
+    for (size_t k = (size_t)l.whole[0]; k < TEXT; k++)
+        if (answer[k] != '#')
+            exit(2);
+    return (int)l.whole[0];
+}
+
 void say_why(pen *p, const request *asked, const settings *kept)
 {
+    char answer[TEXT];
     (void)asked;
-    (void)kept;
-    say(p, "not in the library");
+    say(p, "%.*s", ask(kept, answer) - 1, answer);
 }
 
 /* The driver: the second program's own programs, but for those that make requests and sessions. */
 
-static int desk(const char *file)
+static int desk(const char *file, bool text)
 {
-    char line[LINE_MAX], answer[ANSWER_MAX];
+    char line[LINE_MAX + 1], answer[ANSWER_MAX]; /* a byte over the limit is one that shows */
     settings kept = { NULL, 0 };
     if (file && !settings_if_any(file, &kept))
         return 2;
     for (long length; (length = take_line(line, sizeof line)) >= 0;) {
         request asked;
+        in_hand = line;
+        in_hand_length = (size_t)length < sizeof line ? (size_t)length : sizeof line;
+        if (text) {
+            printf("%.*s", ask(&kept, answer), answer);
+            continue;
+        }
         int unread = read_request(line, (size_t)length, &asked);
         if (unread == NOTHING)
             continue;
@@ -403,7 +450,9 @@ int main(int words, char **word)
     uint64_t checksum;
     const char *what = words > 1 ? word[1] : "";
     if (words <= 3 && strcmp(what, "desk") == 0)
-        return desk(word[2]);
+        return desk(word[2], false);
+    if (words <= 3 && strcmp(what, "ask") == 0)
+        return desk(word[2], true);
     if (words <= 3 && strcmp(what, "list") == 0)
         return list(word[2]);
     if (words <= 3 && strcmp(what, "show") == 0)
@@ -420,6 +469,6 @@ int main(int words, char **word)
         return replay_program(words - 2, word + 2);
     if (words == 4 && strcmp(what, "bench") == 0 && bench(word[2], strtoull(word[3], NULL, 10), &checksum))
         return printf("%016" PRIX64 "\n", checksum) < 0;
-    fputs("by_library desk | list | show | watch | write | settings | replay | bench NAME COUNT\n", stderr);
+    fputs("by_library desk | ask | list | show | watch | write | settings | replay | bench NAME COUNT\n", stderr);
     return 2;
 }

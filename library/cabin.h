@@ -24,7 +24,7 @@
  *   14  a field that is not allowed, or a case that there is not: a judgement, a way round, a body
  *   15  a lent array is too short
  *   16  an elevation over 3,599     17  an axis that is no unit vector     18  the line meets no point so far out
- *   19  a straight fall
+ *   19  a straight fall     20  a vehicle that is not set     21  two vehicles about two bodies
  *   22  a radius not in 0 < r < 2^29, or fractions not in 0..1 in order     23  no such version     24  already 64
  *   30  no settings     25  T3 less than 60,000 behind T2
  *   26  no orbit at that height     27  no such speed     28  the pericentre is too low
@@ -239,6 +239,41 @@ uint32_t cabin_record_line(uint64_t kind, uint8_t vehicle, int64_t time, int16_t
                            int64_t *whole, size_t whole_count);
 uint32_t cabin_refused_line(uint8_t number, uint64_t place, uint8_t *line, size_t line_count, int64_t *whole,
                             size_t whole_count);
+
+/* ---- a session flown again */
+
+/* What a record came to: a state was set, a burn was done, a mark is off. */
+enum { CABIN_SET = 0, CABIN_DONE = 1, CABIN_OFF = 2 };
+
+/* One record of a session, flown again on two vehicles, about the earth and the moon with these mu. The vehicles are yours to
+ * keep, at first all 0; they are read, and on an answer written:
+ *     held, 7 whole numbers: what the record came to, which is not read; then for vehicle 0 and for vehicle 1 whether it is
+ *     set (1 or 0), its body (0 earth, 1 moon) and the time of its state in cs;
+ *     states, 13 doubles: the state of vehicle 0, that of vehicle 1, and by how much a mark is off, computed range less
+ *     recorded range, which is not read, and is written for a mark alone.
+ * A vehicle that is not set is written as 0. The record is as cabin_read hands it out: 6 numbers of a state, 3 of a burn, 2 of a
+ * mark; the body is read for a state alone. Refusals: 13 the kind; 14 a vehicle or a body over 1, or neither set nor not; 15;
+ * 20 a vehicle that is not set; 21 two bodies; 5 too far from the state's time; those of cabin_advance; 4 after a burn. A
+ * refused record changes neither vehicle.
+ *     double states[13] = { 0 }, state[6] = { 4194304, 0, 0, 0, 32, 0 };
+ *     int64_t held[7] = { 0 };
+ *     cabin_replay_step(4294967296.0, 490277800.0, CABIN_STATE, 0, 0, 64, state, 6, states, 13, held, 7);     held[1] is 1 */
+uint32_t cabin_replay_step(double mu_earth, double mu_moon, uint64_t kind, uint8_t vehicle, uint8_t body, int64_t time,
+                           const double *numbers, size_t numbers_count, double *states, size_t states_count, int64_t *held,
+                           size_t held_count);
+
+/* ---- the desk, in text */
+
+/* The desk's answer to a request: a line as at ./cabin desk, without its newline, with `why` in front where it is asked why a
+ * solve refuses (docs/pages/README.md has the requests). `used` are settings, NULL, 0 for none. The answer's line is
+ * put at the front of a buffer of at least 512 bytes, the rest of which stays; there is no 0 behind it. Writes 1 whole number,
+ * the line's length with its newline, which is 0 where the line asks nothing. A request that cannot be read, or is refused, is
+ * answered by a line that says so. Refusals: 15.
+ *     uint8_t answer[512];
+ *     int64_t length;
+ *     cabin_ask(NULL, 0, (const uint8_t *)"root 2", 6, answer, sizeof answer, &length, 1); */
+uint32_t cabin_ask(const uint8_t *used, size_t used_count, const uint8_t *line, size_t line_count, uint8_t *answer,
+                   size_t answer_count, int64_t *whole, size_t whole_count);
 
 /* ---- settings: versions 1, 2, 3 on, of 44 bytes each, at most 64, one behind the other in a buffer; `used` is what they take */
 
