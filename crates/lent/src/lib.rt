@@ -21,6 +21,16 @@ pub fn number_at(s: &[f64], i: usize) -> f64
     0.0 / 0.0
 }
 
+// Word i, and 0 where there is none.
+pub fn word_at(s: &[u64], i: usize) -> u64
+    ensures { λ r. ⌜ r ≡ getD (now (s .entry)) i 0 ⌝ }
+{
+    if i < s.len() {
+        return s[i];
+    }
+    0
+}
+
 pub fn vector_in(s: &[f64]) -> Vector
     ensures { λ r. ⌜ r ≡ vectorIn (now (s .entry)) ⌝ }
 {
