@@ -8,6 +8,7 @@
 #include "files.h"
 #include "pen.h"
 #include "programs.h"
+#include "replay.h"
 #include "session.h"
 #include "settings.h"
 #include "sight.h"
@@ -18,7 +19,7 @@
 #include <stdlib.h>
 #include <string.h>
 
-enum { MOST = 8 };
+enum { MOST = 16 };
 
 /* What is lent for an answer. */
 typedef struct { double numbers[MOST]; int64_t whole[MOST]; } lent;
@@ -33,7 +34,8 @@ static int checked(uint32_t refused, const lent *l, size_t numbers, size_t whole
 #else
 /* It is filled, so that a byte that is written where none should be shows: a refusal has written nothing, an answer
  * nothing behind its places. */
-#define FRESH = { { -1, -1, -1, -1, -1, -1, -1, -1 }, { -1, -1, -1, -1, -1, -1, -1, -1 } }
+#define EIGHT -1, -1, -1, -1, -1, -1, -1, -1
+#define FRESH = { { EIGHT, EIGHT }, { EIGHT, EIGHT } }
 static int checked(uint32_t refused, const lent *l, size_t numbers, size_t wholes)
 {
     static const lent untouched FRESH;
@@ -107,26 +109,32 @@ point trial(double asked, int64_t lo, int64_t hi, judgement below, judgement abo
 
 static const enum grade graded[] = { [CABIN_CLOSED] = CLOSED, [CABIN_FAIR] = FAIR, [CABIN_ROUGH] = ROUGH };
 
+/* An orbit's numbers and its whole numbers. */
+static solution orbit_of(const double *x, const int64_t *w)
+{
+    return (solution){ .n = w[0], .count = (uint64_t)w[1], .turns = (uint64_t)w[2], .grade = graded[w[3]], .time = x[6],
+                       .err = x[7], .r = vector_of(x), .v = vector_of(x + 3) };
+}
+
 solution kepler(double mu, state from, double time)
 {
     lent l FRESH;
     int r = checked(cabin_advance(mu, LENT_STATE(from), time, l.numbers, 8, l.whole, 4), &l, 8, 4);
-    if (r)
-        return (solution){ .refused = r };
-    return (solution){ .n = l.whole[0], .count = (uint64_t)l.whole[1], .turns = (uint64_t)l.whole[2], .grade = graded[l.whole[3]],
-                       .time = l.numbers[6], .err = l.numbers[7], .r = vector_of(l.numbers), .v = vector_of(l.numbers + 3) };
+    return r ? (solution){ .refused = r } : orbit_of(l.numbers, l.whole);
 }
 
 static const uint64_t ways[] = { [SHORT_WAY] = CABIN_SHORT_WAY, [LONG_WAY] = CABIN_LONG_WAY, [NORMAL_GIVEN] = CABIN_NORMAL };
+
+static solution velocity_of(const double *x, const int64_t *w)
+{
+    return (solution){ .n = w[0], .count = (uint64_t)w[1], .grade = graded[w[2]], .time = x[3], .err = x[4], .v = vector_of(x) };
+}
 
 static solution transfer(double mu, vector from, vector to, double time, way way)
 {
     lent l FRESH;
     int r = checked(cabin_transfer_velocity(mu, LENT(from), LENT(to), ways[way.as], LENT(way.normal), time, l.numbers, 5, l.whole, 3), &l, 5, 3);
-    if (r)
-        return (solution){ .refused = r };
-    return (solution){ .n = l.whole[0], .count = (uint64_t)l.whole[1], .grade = graded[l.whole[2]], .time = l.numbers[3],
-                       .err = l.numbers[4], .v = vector_of(l.numbers) };
+    return r ? (solution){ .refused = r } : velocity_of(l.numbers, l.whole);
 }
 
 solution lambert(double mu, vector from, vector to, double time, bool long_way)
@@ -134,16 +142,69 @@ solution lambert(double mu, vector from, vector to, double time, bool long_way)
     return transfer(mu, from, to, time, (way){ .as = long_way ? LONG_WAY : SHORT_WAY });
 }
 
-solution advance_state(double mu, state from, double time, terms on)
+/* The run to go on from, as it is lent: none is no word and no time. */
+typedef struct { double times[2]; int64_t words[5]; } run;
+
+static run run_of(const bracket *b)
+{
+    return (run){ { b->below.time, b->above.time },
+                  { b->lo, (int64_t)judged_as[b->below.as], b->hi, (int64_t)judged_as[b->above.as], (int64_t)b->count } };
+}
+
+#define LENT_RUN(r, on) (r).times, (on).continued ? 2 : 0, (r).words, (on).continued ? 5 : 0, (on).limit
+
+/* What a limit stopped: the library's words and times are handed in again as they are (tools/library.sh, `stops`). */
+static solution stopped_at(const lent *l)
+{
+    static const enum judged named[] = { [CABIN_LOW] = LOW, [CABIN_HIGH] = HIGH, [CABIN_UNDER] = UNDER, [CABIN_OVER] = OVER };
+    const int64_t *w = l->whole + 1;
+    return (solution){ .refused = 29, .at = { .lo = w[0], .hi = w[2], .below = { named[w[1]], l->numbers[0] },
+                                              .above = { named[w[3]], l->numbers[1] }, .count = (uint64_t)w[4] } };
+}
+
+/* The settings that a version is named of: `by` looks at them. */
+static settings in_use;
+
+int take_fractions(const settings *s, terms *on)
 {
     (void)on;
-    return kepler(mu, from, time);
+    in_use = *s;
+    return 0;
+}
+
+static bool usual(const terms *on)
+{
+    return !on->continued && !on->versioned && on->limit == usual_terms.limit;
+}
+
+solution advance_state(double mu, state from, double time, terms on)
+{
+    lent l FRESH;
+    run r = run_of(&on.from);
+    if (usual(&on))
+        return kepler(mu, from, time);
+    uint32_t refused = on.versioned ? cabin_advance_by(in_use.bytes, in_use.used, on.version, mu, LENT_STATE(from), time, LENT_RUN(r, on), l.numbers, 8, l.whole, 6)
+                                    : cabin_advance_within(mu, LENT_STATE(from), time, LENT_RUN(r, on), l.numbers, 8, l.whole, 6);
+    bool found = l.whole[0] == CABIN_FOUND;
+    if (checked(refused, &l, found ? 8 : 2, found ? 5 : 6))
+        return (solution){ .refused = (int)refused };
+    return found ? orbit_of(l.numbers, l.whole + 1) : stopped_at(&l);
 }
 
 solution transfer_velocity(double mu, vector from, vector to, double time, way way, terms on)
 {
-    (void)on;
-    return transfer(mu, from, to, time, way);
+    lent l FRESH;
+    run r = run_of(&on.from);
+    if (usual(&on))
+        return transfer(mu, from, to, time, way);
+    uint32_t refused = on.versioned ? cabin_transfer_velocity_by(in_use.bytes, in_use.used, on.version, mu, LENT(from), LENT(to), ways[way.as], LENT(way.normal),
+                                                                 time, LENT_RUN(r, on), l.numbers, 5, l.whole, 6)
+                                    : cabin_transfer_velocity_within(mu, LENT(from), LENT(to), ways[way.as], LENT(way.normal), time, LENT_RUN(r, on), l.numbers, 5,
+                                                                     l.whole, 6);
+    bool found = l.whole[0] == CABIN_FOUND;
+    if (checked(refused, &l, found ? 5 : 2, found ? 4 : 6))
+        return (solution){ .refused = (int)refused };
+    return found ? velocity_of(l.numbers, l.whole + 1) : stopped_at(&l);
 }
 
 number time_theta(double mu, state from, double sine, double cosine)
@@ -245,6 +306,29 @@ writing append_record(uint8_t *buffer, size_t size, size_t used, const record *r
     return (writing){ checked(refused, &l, 0, 1), refused ? used : (size_t)l.whole[0] };
 }
 
+/* A session flown again */
+
+replayed take_record(replay *m, const record *r)
+{
+    lent l FRESH;
+    for (int k = 0; k < 2; k++) {
+        const vehicle *v = &m->vehicles[k];
+        memcpy(l.whole + 1 + 3 * k, (const int64_t[]){ v->set, (int64_t)v->body, v->time }, 3 * sizeof(int64_t));
+        memcpy(l.numbers + 6 * k, ((const double[]){ v->at.r.x, v->at.r.y, v->at.r.z, v->at.v.x, v->at.v.y, v->at.v.z }), 6 * sizeof(double));
+    }
+    lent before = l;
+    uint32_t refused = cabin_replay_step(m->mu[0], m->mu[1], (uint64_t)r->kind, (uint8_t)r->vehicle, (uint8_t)r->byte, r->time, r->numbers,
+                                         (size_t)numbers_of(r->kind), l.numbers, 13, l.whole, 7);
+    if (refused && memcmp(&before, &l, sizeof l) != 0)
+        checked(refused, &l, 0, 0); /* which ends the driver: it is not as it was */
+    for (int k = 0; !refused && k < 2; k++) {
+        const int64_t *w = l.whole + 1 + 3 * k;
+        const double *x = l.numbers + 6 * k;
+        m->vehicles[k] = (vehicle){ w[0] == 1, (uint64_t)w[1], w[2], { vector_of(x), vector_of(x + 3) } };
+    }
+    return (replayed){ (int)refused, l.numbers[12] };
+}
+
 /* The listing */
 
 enum { LINE = 40 };
@@ -311,26 +395,51 @@ versioned go_back(settings *s, size_t size, uint64_t number)
     return stored(s, refused, &l);
 }
 
-/* The library has no `why`: requests that ask it are not put to the driver. */
+/* The desk in text. `why` is asked so, of the line that is in hand. */
+
+enum { TEXT = 512 };
+
+static const char *in_hand;
+static size_t in_hand_length;
+
+static int ask(const settings *kept, char answer[TEXT])
+{
+    lent l FRESH;
+    memset(answer, '#', TEXT);
+    checked(cabin_ask(kept->bytes, kept->used, (const uint8_t *)in_hand, in_hand_length, (uint8_t *)answer, TEXT, l.whole, 1), &l, 0, 1);
+    for (size_t k = (size_t)l.whole[0]; k < TEXT; k++)
+        if (answer[k] != '#')
+            exit(2);
+    return (int)l.whole[0];
+}
+
 void say_why(pen *p, const request *asked, const settings *kept)
 {
+    char answer[TEXT];
     (void)asked;
-    (void)kept;
-    say(p, "not in the library");
+    say(p, "%.*s", ask(kept, answer) - 1, answer);
 }
 
 /* The driver: the second program's own programs, but for those that make requests and sessions. */
 
-static int desk(void)
+static int desk(const char *file, bool text)
 {
-    char line[LINE_MAX], answer[ANSWER_MAX];
-    const settings none = { NULL, 0 };
+    char line[LINE_MAX + 1], answer[ANSWER_MAX]; /* a byte over the limit is one that shows */
+    settings kept = { NULL, 0 };
+    if (file && !settings_if_any(file, &kept))
+        return 2;
     for (long length; (length = take_line(line, sizeof line)) >= 0;) {
         request asked;
+        in_hand = line;
+        in_hand_length = (size_t)length < sizeof line ? (size_t)length : sizeof line;
+        if (text) {
+            printf("%.*s", ask(&kept, answer), answer);
+            continue;
+        }
         int unread = read_request(line, (size_t)length, &asked);
         if (unread == NOTHING)
             continue;
-        answer_line(unread, &asked, &none, answer);
+        answer_line(unread, &asked, &kept, answer);
         puts(answer);
     }
     return 0;
@@ -340,8 +449,10 @@ int main(int words, char **word)
 {
     uint64_t checksum;
     const char *what = words > 1 ? word[1] : "";
-    if (words == 2 && strcmp(what, "desk") == 0)
-        return desk();
+    if (words <= 3 && strcmp(what, "desk") == 0)
+        return desk(word[2], false);
+    if (words <= 3 && strcmp(what, "ask") == 0)
+        return desk(word[2], true);
     if (words <= 3 && strcmp(what, "list") == 0)
         return list(word[2]);
     if (words <= 3 && strcmp(what, "show") == 0)
@@ -358,6 +469,6 @@ int main(int words, char **word)
         return replay_program(words - 2, word + 2);
     if (words == 4 && strcmp(what, "bench") == 0 && bench(word[2], strtoull(word[3], NULL, 10), &checksum))
         return printf("%016" PRIX64 "\n", checksum) < 0;
-    fputs("by_library desk | list | show | watch | write | settings | replay | bench NAME COUNT\n", stderr);
+    fputs("by_library desk | ask | list | show | watch | write | settings | replay | bench NAME COUNT\n", stderr);
     return 2;
 }

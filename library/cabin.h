@@ -24,7 +24,7 @@
  *   14  a field that is not allowed, or a case that there is not: a judgement, a way round, a body
  *   15  a lent array is too short
  *   16  an elevation over 3,599     17  an axis that is no unit vector     18  the line meets no point so far out
- *   19  a straight fall
+ *   19  a straight fall     20  a vehicle that is not set     21  two vehicles about two bodies
  *   22  a radius not in 0 < r < 2^29, or fractions not in 0..1 in order     23  no such version     24  already 64
  *   30  no settings     25  T3 less than 60,000 behind T2
  *   26  no orbit at that height     27  no such speed     28  the pericentre is too low
@@ -94,6 +94,49 @@ enum { CABIN_SHORT_WAY = 0, CABIN_LONG_WAY = 1, CABIN_NORMAL = 2 };
 uint32_t cabin_transfer_velocity(double mu, const double *first, size_t first_count, const double *second,
                                  size_t second_count, uint64_t way, const double *normal, size_t normal_count, double t,
                                  double *out, size_t out_count, int64_t *whole, size_t whole_count);
+
+/* The same two solves with a limit on the count of trials, going on where a run was stopped.
+ *
+ * `from` is a stopped run, 5 whole numbers: lo, its judgement, hi, its judgement, the count of trials made; `times` are 2
+ * doubles, the times of the two judgements, each looked at for CABIN_LOW and CABIN_HIGH alone. With from_count 0 the trials
+ * begin at the start, and NULL, 0 will do for both. The limit is on the whole count; UINT64_MAX is none.
+ *
+ * A run that the limit stops is an answer with a case of its own, so that it can be gone on with. Writes 1 whole number, the
+ * case, and then:
+ *     CABIN_FOUND: the numbers and whole numbers of cabin_advance or cabin_transfer_velocity;
+ *     CABIN_NOT_FINISHED: the 5 whole numbers of the stopped run, and 2 doubles, its times, +0 for a judgement that has none.
+ * What is written may not overlap what is read: copy a run before it is handed in again.
+ * Refusals: those of the solve; 6 also for a run that trials of this solve cannot have been stopped at; 14 also for a
+ * judgement over CABIN_OVER; 15 also for a run of 1 to 4 whole numbers, or with fewer than 2 times.
+ *     double from[6] = { 4194304, 0, 0, 0, 32, 0 }, out[8], times[2];
+ *     int64_t whole[6], run[5];
+ *     size_t runs = 0;
+ *     for (uint64_t limit = 4; cabin_advance_within(4294967296.0, from, 6, 64.0, times, 2, run, runs, limit, out, 8, whole, 6) == 0
+ *                              && whole[0] == CABIN_NOT_FINISHED; limit += 4) {
+ *         memcpy(run, whole + 1, sizeof run), memcpy(times, out, sizeof times);
+ *         runs = 5;
+ *     } */
+enum { CABIN_FOUND = 0, CABIN_NOT_FINISHED = 1 };
+
+uint32_t cabin_advance_within(double mu, const double *state, size_t state_count, double t, const double *times,
+                              size_t times_count, const int64_t *from, size_t from_count, uint64_t limit, double *out,
+                              size_t out_count, int64_t *whole, size_t whole_count);
+uint32_t cabin_transfer_velocity_within(double mu, const double *first, size_t first_count, const double *second,
+                                        size_t second_count, uint64_t way, const double *normal, size_t normal_count, double t,
+                                        const double *times, size_t times_count, const int64_t *from, size_t from_count,
+                                        uint64_t limit, double *out, size_t out_count, int64_t *whole, size_t whole_count);
+
+/* The same with the grade by the two fractions of version k of settings (below, `used`). Refusals: also 23 no such version,
+ * 30 the used part is no settings; these two come ahead of the solve's own. */
+uint32_t cabin_advance_by(const uint8_t *used, size_t used_count, uint64_t k, double mu, const double *state,
+                          size_t state_count, double t, const double *times, size_t times_count, const int64_t *from,
+                          size_t from_count, uint64_t limit, double *out, size_t out_count, int64_t *whole,
+                          size_t whole_count);
+uint32_t cabin_transfer_velocity_by(const uint8_t *used, size_t used_count, uint64_t k, double mu, const double *first,
+                                    size_t first_count, const double *second, size_t second_count, uint64_t way,
+                                    const double *normal, size_t normal_count, double t, const double *times,
+                                    size_t times_count, const int64_t *from, size_t from_count, uint64_t limit, double *out,
+                                    size_t out_count, int64_t *whole, size_t whole_count);
 
 /* The time from a state to the end of an angle, given by its sine and cosine. Writes 1 double. Refusals: 1 to 4, 6 to 8, 10,
  * 15, 19.
@@ -196,6 +239,41 @@ uint32_t cabin_record_line(uint64_t kind, uint8_t vehicle, int64_t time, int16_t
                            int64_t *whole, size_t whole_count);
 uint32_t cabin_refused_line(uint8_t number, uint64_t place, uint8_t *line, size_t line_count, int64_t *whole,
                             size_t whole_count);
+
+/* ---- a session flown again */
+
+/* What a record came to: a state was set, a burn was done, a mark is off. */
+enum { CABIN_SET = 0, CABIN_DONE = 1, CABIN_OFF = 2 };
+
+/* One record of a session, flown again on two vehicles, about the earth and the moon with these mu. The vehicles are yours to
+ * keep, at first all 0; they are read, and on an answer written:
+ *     held, 7 whole numbers: what the record came to, which is not read; then for vehicle 0 and for vehicle 1 whether it is
+ *     set (1 or 0), its body (0 earth, 1 moon) and the time of its state in cs;
+ *     states, 13 doubles: the state of vehicle 0, that of vehicle 1, and by how much a mark is off, computed range less
+ *     recorded range, which is not read, and is written for a mark alone.
+ * A vehicle that is not set is written as 0. The record is as cabin_read hands it out: 6 numbers of a state, 3 of a burn, 2 of a
+ * mark; the body is read for a state alone. Refusals: 13 the kind; 14 a vehicle or a body over 1, or neither set nor not; 15;
+ * 20 a vehicle that is not set; 21 two bodies; 5 too far from the state's time; those of cabin_advance; 4 after a burn. A
+ * refused record changes neither vehicle.
+ *     double states[13] = { 0 }, state[6] = { 4194304, 0, 0, 0, 32, 0 };
+ *     int64_t held[7] = { 0 };
+ *     cabin_replay_step(4294967296.0, 490277800.0, CABIN_STATE, 0, 0, 64, state, 6, states, 13, held, 7);     held[1] is 1 */
+uint32_t cabin_replay_step(double mu_earth, double mu_moon, uint64_t kind, uint8_t vehicle, uint8_t body, int64_t time,
+                           const double *numbers, size_t numbers_count, double *states, size_t states_count, int64_t *held,
+                           size_t held_count);
+
+/* ---- the desk, in text */
+
+/* The desk's answer to a request: a line as at ./cabin desk, without its newline, with `why` in front where it is asked why a
+ * solve refuses (docs/pages/README.md has the requests). `used` are settings, NULL, 0 for none. The answer's line is
+ * put at the front of a buffer of at least 512 bytes, the rest of which stays; there is no 0 behind it. Writes 1 whole number,
+ * the line's length with its newline, which is 0 where the line asks nothing. A request that cannot be read, or is refused, is
+ * answered by a line that says so. Refusals: 15.
+ *     uint8_t answer[512];
+ *     int64_t length;
+ *     cabin_ask(NULL, 0, (const uint8_t *)"root 2", 6, answer, sizeof answer, &length, 1); */
+uint32_t cabin_ask(const uint8_t *used, size_t used_count, const uint8_t *line, size_t line_count, uint8_t *answer,
+                   size_t answer_count, int64_t *whole, size_t whole_count);
 
 /* ---- settings: versions 1, 2, 3 on, of 44 bytes each, at most 64, one behind the other in a buffer; `used` is what they take */
 

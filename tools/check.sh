@@ -18,31 +18,22 @@ changed_files() {
 
 changed_crates() { sed -n 's|^crates/\([^/]*\)/.*|\1|p' | sort -u | while read -r crate; do related above "$crate" | head -n 1; done; }
 
-# Tries the must-fail edits of CRATE.. alone, in a copy where no other crate has any: the prover tries those of every
-# dependency. An edit costs its crate's check, so one that was refused is not tried again while its crate, and what that
-# stands on, is the same.
+# Tries the must-fail edits of CRATE.. alone. One that was refused is not tried again while its crate, and what that stands
+# on, is the same.
 try_edits() { # CRATE..
-    local room=target/check refused=$keep/refused made crate edit key todo=() keys=()
-    rm -rf "$room"
-    mkdir -p "$room/target"
+    local refused=$keep/refused made crate edit key todo=() keys=()
     touch "$refused"
-    cp -r crates crates.txt "$room"
-    rm -rf "$room"/crates/*/must-fail
     for crate in "$@"; do
         made=$(digest "$crate")
-        mkdir "$room/crates/$crate/must-fail"
         for edit in crates/"$crate"/must-fail/*.edit; do
             [ -f "$edit" ] || continue
             key="$edit $made $(sha256sum <"$edit" | cut -c 1-16)"
             grep -qxF "$key" "$refused" && continue
-            cp "$edit" "$room/$edit"
-            todo+=("$crate") keys+=("$key")
+            todo+=("$crate/$(basename "$edit" .edit)") keys+=("$key")
         done
     done
     [ ${#keys[@]} -gt 0 ] || { echo "no must-fail edit that was not refused before"; return; }
-    cp -r target/rlib target/stamp target/log "$room/target"
-    mapfile -t todo < <(printf '%s\n' "${todo[@]}" | sort -u)
-    (cd "$room" && rt must-fail "${todo[@]}") | grep -E 'must-fail|NOT PROVED|FAILED'
+    python3 tools/edits.py "${todo[@]}"
     printf '%s\n' "${keys[@]}" >>"$refused"
 }
 

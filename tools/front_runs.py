@@ -28,13 +28,12 @@ REFUSED = sample() + b"\x26\x00\x09\x00"
 NOBODY = 65534
 
 # The kit's stand-in. STUB holds what its runs leave and find: `runs` (a line a start and an end), `hook` (run in the
-# middle of a proof), `ci` (what `rt ci` does).
+# middle of a proof), `ci` (what tools/proofs.sh does).
 KIT = """#!/bin/sh
 case $1 in
 doc) echo @DOC@ ;;
 version) echo stand-in ;;
 fmt) exit 0 ;;
-ci) rm -rf target; . "$STUB/ci" ;;
 check)
     echo "start $2" >>"$STUB/runs"
     cat >/dev/null
@@ -96,6 +95,7 @@ class Room:
         shutil.copy(ROOT / "cabin", self.home)
         for script in (ROOT / "tools").glob("*.sh"):
             shutil.copy(script, self.home / "tools")
+        (self.home / "tools" / "proofs.sh").write_text('rm -rf target; . "$STUB/ci"\n')
         self.stub.mkdir()
         doc = subprocess.run(["rt", "doc"], capture_output=True, text=True, check=True).stdout.strip()
         (self.stub / "rt").write_text(KIT.replace("@DOC@", doc))

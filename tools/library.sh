@@ -32,6 +32,8 @@ ask_both() {
     "${emulator[@]}" "$room/by_library" desk <"$room/requests" >"$room/answers"
     run desk <"$room/requests" >"$room/desk"
     python3 second/compare.py "$room/desk" "$room/answers" "$room/requests"
+    "${emulator[@]}" "$room/by_library" ask <"$room/requests" >"$room/answers"
+    python3 second/compare.py "$room/desk" "$room/answers" "$room/requests"
 }
 
 requests() {
@@ -40,30 +42,33 @@ requests() {
     build_driver "$room" -O2
     ready desk
     echo "stored requests"
-    grep -avE "$not_yet" crates/desk/stdin >"$room/requests"
+    cp crates/desk/stdin "$room/requests"
     ask_both
     echo "20000 fresh requests, seed $seed"
     make -s -C second
-    target/second/second requests "$seed" 20000 | grep -avE "$not_yet" >"$room/requests"
+    target/second/second requests "$seed" 20000 >"$room/requests"
     ask_both
+    stand_in
+    echo "500 solves stopped and gone on with, seed $seed"
+    python3 tools/continue.py "${start[*]} ${program[desk]}" "$home/$room/stand_in desk" 500 "$seed"
 }
 
 # What stands in the second program's place where ./cabin is compared: the driver, and the second program where it makes
-# sessions and texts.
+# requests, sessions, texts and flights.
 stand_in() {
     build_driver "$room" -O2
     make -s -C second
     cat >"$room/stand_in" <<END
 #!/bin/sh
 case \$1 in
-sessions | texts) exec "$home/target/second/second" "\$@" ;;
+requests | sessions | texts | flights) exec "$home/target/second/second" "\$@" ;;
 *) exec ${emulator[*]} "$home/$room/by_library" "\$@" ;;
 esac
 END
     chmod +x "$room/stand_in"
 }
 
-# Sessions shown and listed, and texts written.
+# Sessions shown, listed and flown again, and texts written.
 records() {
     local session wrong=0 name
     stand_in
@@ -86,16 +91,20 @@ records() {
     done
     echo "$(ls "$room"/sessions/* samples/*.bin | wc -l) sessions listed, $wrong differences"
     [ "$wrong" -eq 0 ]
+    ready refly
+    ready history
+    echo "20 flights and 10 sessions flown again, seed $seed"
+    python3 tools/replay.py ./cabin "$home/$room/stand_in" 20 "$seed"
 }
 
 versions() {
     stand_in
     ready history
     python3 tools/settings.py ./cabin "$home/$room/stand_in" 12 "$seed"
+    ready desk
+    echo "200 solves graded by settings, seed $seed"
+    python3 tools/grades.py ./cabin "$home/$room/stand_in" 200 "$seed"
 }
-
-# Requests that the library does not have.
-not_yet='[[:space:]](from|limit|version)[[:space:]]|^[[:space:]]*why'
 
 mkdir -p "$room"
 ./cabin library "$room"

@@ -29,8 +29,8 @@ want() { # COMMAND PACKAGE
 # was proved is made ready, and from then on nothing is built: a part that lacks its program fails at once.
 proofs() {
     local log=$keep/gate.log
-    printf '\n== proofs, must-fail edits, programs\n'
-    rt ci 2>&1 | tee "$log" | sed -u '/^[0-9]* passed, [0-9]* failed$/d' || true
+    printf '\n== proofs, programs, wrong builds\n'
+    bash tools/proofs.sh 2>&1 | tee "$log" | sed -u '/^[0-9]* passed, [0-9]* failed$/d' || true
     if [[ $(tail -n 1 "$log") =~ ^([0-9]+)\ passed,\ ([0-9]+)\ failed$ ]]; then
         passed=$((passed + BASH_REMATCH[1])) failed=$((failed + BASH_REMATCH[2]))
         [ "${BASH_REMATCH[2]}" -eq 0 ] || wrong+=(proofs)

@@ -6,6 +6,7 @@ use mathlib.Core.List.{List, [], _++_}
 use mathlib.Core.Bool.{Bool, true, false, cond}
 use lib.ListN.{length, drop, length-append}
 use lib.Dec.{ltb}
+use Rattle.facts.proofs.Wholes.{zero-one}
 use Rattle.flight.specs.declared.Mu.{Mu}
 use Rattle.text.specs.Pieces.{concat, Laid}
 use Rattle.text.proofs.Lays.{all-fit}
@@ -67,9 +68,6 @@ pub record Inside (mu : Mu) (s : List ℕ) (next : Next) (p : Replay) (e : List 
 pub line-inside : {mu : Mu} {s : List ℕ} {next : Next} {p : Replay} {d e : List ℕ} {t : Told} → Telling mu s next p d e (T.Line t) → Inside mu s next p e t
 line-inside {mu} {s} {next} {p} {d} {e} {t} f = go (ltb (length d) 512) (f .answer) (f .buffer)
   where
-    zero-one : _≡_ {A = ℕ} 0 1 → ⊥
-    zero-one z = omega arith
-
     go : (b : Bool) → T.Line t ≡ cond b (T.Refused 15) (T.Line (told (length (stepOf mu s next p .line)) (stepOf mu s next p .next) (stepOf mu s next p .replay)))
         → e ≡ cond b d (stepOf mu s next p .line ++ drop (length (stepOf mu s next p .line)) d) → Inside mu s next p e t
     go true a b = let z : _≡_ {A = ℕ} 0 1 = cc in absurd (zero-one z)

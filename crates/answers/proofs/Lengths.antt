@@ -4,12 +4,12 @@ use native.Mathlib.Omega.{arith}
 use mathlib.Core.List.{List, [], _∷_}
 use lib.ListN.{length, length-append}
 use lib.Dec.{lit≤}
-use lib.IntN.{ℤ, pos, negsuc}
+use lib.IntN.{ℤ}
 use lib.Ieee.{Float}
-use Rattle.text.specs.Text.{ascii, signedText}
+use Rattle.text.specs.Text.{ascii}
 use Rattle.text.specs.Pieces.{concat}
-use Rattle.text.proofs.Decimals.{at-most}
-use Rattle.text.proofs.Lays.{concat-append}
+use Rattle.text.proofs.Signs.{signed-short}
+use Rattle.text.proofs.Lays.{size, concat-append}
 use Rattle.columns.proofs.RowLaws.{end-short, labelled-short, refused-fits}
 use Rattle.real.specs.declared.Answer.{Answer}
 use Rattle.real.specs.declared.Answer.the-variants as A
@@ -24,14 +24,6 @@ use Rattle.apsides.specs.Apsides as Periapo
 use Rattle.apsides.specs.declared.Apsides.{Apsides}
 use Rattle.apsides.specs.declared.Apsides.the-variants as Ap
 use Rattle.answers.specs.Answers.{onePieces, closedPieces, pointPieces, answerPieces, triedPieces, timedPieces, apsidesPieces}
-
--- the length of pieces
-abbrev size : List (List ℕ) → ℕ
-size xs = length (concat xs)
-
-signed-short : (z : ℤ) → length (signedText z) ≤ 21
-signed-short (pos n) = omega (arith, at-most 20 n)
-signed-short (negsuc n) = omega (arith, at-most 20 (n + 1))
 
 one-short : (name : List ℕ) (x : Float) → size (onePieces name x) ≤ length name + 46
 unfolding onePieces

@@ -1,7 +1,7 @@
 -- The refusal number of the apsides is the first row's that applies, and 1 where an input is infinite or not a number; no answer
 -- holds a NaN.
 -- Assumes nothing.
-use Prim.Native.Nat.{ℕ, zero, suc, _+_, _-_, _*_, _≤_, _<_}
+use Prim.Native.Nat.{zero, suc, _+_, _-_, _*_, _≤_, _<_}
 use native.Mathlib.Omega.{arith}
 use mathlib.Core.Path.{_≡_, refl, sym, ap, _∙_, subst}
 use mathlib.Core.Bool.{Bool, true, false, cond, _&&_, false≢true}
@@ -11,9 +11,9 @@ use lib.Dec.{T, ltb, ltb→lt, lit≤, eqb, eqb→eq, eqb·suc-zero}
 use lib.Ieee as Ieee
 use lib.Ieee.{Float, nan, inf, fin, binary64, up, down, round, isNan, ofBits}
 use lib.Ieee.Fits.{down-pos, and-l}
-use lib.Ieee.Order.{round-mono}
+use Rattle.facts.proofs.Truth.{and-0, and-1}
 use Rattle.real.specs.F64.{_⊕_, _⊖_, _⊗_, _⊘_, _≤ᶠ_, _<ᶠ_, two^, f0, f1, finite, sizeOf}
-use Rattle.real.proofs.Bounds.{Within, within-finite, add-within, round-no-nan, or-cases}
+use Rattle.real.proofs.Bounds.{Within, within-finite, add-within, round-no-nan, or-cases, round-from-1}
 use Rattle.root.proofs.Sign.{NotBelow, root-not-below}
 use Rattle.vector.specs.declared.State.{State}
 use Rattle.table.specs.declared.Test.{Test}
@@ -24,8 +24,7 @@ use Rattle.table.specs.declared.Entry.{Entry}
 use Rattle.table.specs.Tests as Tests
 use Rattle.table.specs.Tests.{firstFailing, allMeet, firstRow, tableOrder}
 use Rattle.rows.specs.Rows.{finiteInputs, stateRows}
-use Rattle.table.proofs.Laws.{reason, all-met, met-left, met-right, first-row, row-then}
-use Rattle.real.proofs.Tests.{and-0, and-1}
+use Rattle.table.proofs.Laws.{all-met, met-left, met-right, first-row, row-then}
 use Rattle.rows.proofs.Inputs.{allFinite, inputs-finite}
 use Rattle.conic.specs.Conic.{straightRow}
 use Rattle.apsides.specs.declared.Shape.{Shape}
@@ -35,23 +34,18 @@ use Rattle.apsides.specs.Apsides.{radicandOf, shapeOf, derivedRow, apsid
 
 -- ---- 1 + e is finite and 1 or more, for an e under 2^3 that is not below zero
 
--- a fraction of 1 or more, rounded
-fraction : (n d : ℕ) → 0 < d → d ≤ n → T (fin false 1 (pos 0) ≤ᶠ round binary64 false n d)
-unfolding round
-fraction n d p h = round-mono binary64 1 1 n d (lit≤ tt) p (omega arith)
-
 one-plus : (x : Float) → finite x ≡ true → NotBelow x → T (fin false 1 (pos 0) ≤ᶠ f1 ⊕ x)
 unfolding Ieee.add Ieee.sum ofBits
 one-plus nan g h = absurd (false≢true g)
 one-plus (inf s) g h = absurd (false≢true g)
 one-plus (fin true (suc m) e) g h = absurd h
-one-plus (fin false m e) g h = fraction (1 * 1 * down e + m * up e * 1) (1 * down e) (omega (arith, down-pos e)) (omega arith)
+one-plus (fin false m e) g h = round-from-1 (1 * 1 * down e + m * up e * 1) (1 * down e) (omega (arith, down-pos e)) (omega arith)
 one-plus (fin true zero e) g h = go (ltb (1 * 1 * down e) (0 * up e * 1)) (λ l. ltb→lt _ _ l)
   where
     go : (b : Bool) → (T b → 1 * 1 * down e < 0 * up e * 1)
         → T (fin false 1 (pos 0) ≤ᶠ cond b (round binary64 true (0 * up e * 1 - 1 * 1 * down e) (1 * down e)) (round binary64 false (1 * 1 * down e - 0 * up e * 1) (1 * down e)))
     go true l = let k = l tt in absurd (omega arith)
-    go false l = fraction (1 * 1 * down e - 0 * up e * 1) (1 * down e) (omega (arith, down-pos e)) (omega arith)
+    go false l = round-from-1 (1 * 1 * down e - 0 * up e * 1) (1 * down e) (omega (arith, down-pos e)) (omega arith)
 
 under-8 : (x : Float) → NotBelow x → (x <ᶠ two^ 3) ≡ true → Within x 8
 unfolding Ieee.lt ofBits

@@ -1,6 +1,5 @@
 -- Periapo: the apsides, in the operations of f64 and in their order. Assumes nothing: these are definitions.
 use Prim.Native.Nat.{ℕ}
-use mathlib.Core.Path.{_≡_}
 use mathlib.Core.Bool.{cond, _&&_}
 use mathlib.Core.List.{List, [], _∷_, _++_}
 use lib.Ieee.{Float}
@@ -14,7 +13,7 @@ use Rattle.table.specs.declared.Entry.{Entry}
 use Rattle.table.specs.declared.Test.{Test}
 use Rattle.table.specs.declared.Test.the-variants.{Passed, Failed}
 use Rattle.vector.specs.Vectors.{positionOf, velocityOf, crossOf, lengthOf}
-use Rattle.table.specs.Tests.{Reason, entry, firstFailing}
+use Rattle.table.specs.Tests.{entry, firstFailing}
 use Rattle.rows.specs.Rows.{finiteInputs, stateRows}
 use Rattle.conic.specs.Conic.{c2Of, pOf, c2Row, pRow, pNOf, straightRow}
 use Rattle.apsides.specs.declared.Shape.{Shape}

@@ -1,6 +1,5 @@
 -- Laws of the burn: no answer holds a NaN; an answer's pericentre is high enough; and 28 exactly where it is not. Assumes nothing.
 use Prim.Native.Nat.{ℕ, _+_, _-_, _*_}
-use native.Mathlib.Omega.{arith}
 use mathlib.Core.Path.{_≡_, refl, sym, ap, _∙_, subst}
 use mathlib.Core.Bool.{Bool, true, false, cond, not, _&&_, Bool·beq, false≢true}
 use mathlib.Core.List.{List, _++_}
@@ -9,11 +8,12 @@ use lib.Dec.{ltb, eqb}
 use lib.IntN.{ℤ}
 use lib.Ieee as Ieee
 use lib.Ieee.{Float, nan, inf, fin, binary64, up, down, round, isNan}
+use Rattle.facts.proofs.Wholes.{zero-one}
 use Rattle.real.specs.F64.{_⊖_, _≤ᶠ_, f0, finite}
 use Rattle.real.proofs.Bounds.{round-no-nan}
 use Rattle.vector.specs.declared.Vector.{Vector}
 use Rattle.vector.specs.declared.State.{State}
-use Rattle.vector.specs.Vectors.{positionOf, velocityOf, stateOf, lengthOf}
+use Rattle.vector.specs.Vectors.{positionOf, velocityOf, stateOf, lengthOf, differenceOf}
 use Rattle.table.specs.declared.Name.the-variants.{Position, Velocity}
 use Rattle.table.specs.declared.Entry.{Entry}
 use Rattle.table.specs.declared.Test.{Test}
@@ -52,16 +52,13 @@ use Rattle.elapsed.specs.Elapsed.{atLeast, elapsedOf}
 use Rattle.coelliptic.specs.declared.Angle.{Angle}
 use Rattle.coelliptic.specs.declared.Passive.{Passive}
 use Rattle.coelliptic.specs.declared.Speeds.{Speeds}
-use Rattle.coelliptic.specs.Coelliptic.{differenceOf, angleOf, passiveOf, axisOf, speedsOf, newOf}
+use Rattle.coelliptic.specs.Coelliptic.{angleOf, passiveOf, axisOf, speedsOf, newOf}
 use Rattle.burn.specs.declared.Centre.{Centre}
 use Rattle.burn.specs.declared.Brought.{Brought}
 use Rattle.burn.specs.declared.Brought.the-variants as B
 use Rattle.burn.specs.declared.Burn.{Burn}
 use Rattle.burn.specs.declared.Burn.the-variants.{Closed, Open, Refused}
 use Rattle.burn.specs.Burn.{keptOf, movedOf, movedFor, movedBy, atTime, inLineOf, clearOf, judgedOf, changedOf, spedOf, bound, besideOf, aboveOf, fromPoint, fromPassive, fromActive, radiusAllowed, burnOf}
-
-zero-one : _≡_ {A = ℕ} 0 1 → ⊥
-zero-one e = omega arith
 
 -- ---- a difference of two finite numbers is no NaN
 

@@ -5,10 +5,12 @@ use mathlib.Core.Bool.{Bool, cond, _&&_}
 use lib.Dec.{ltb, eqb}
 use lib.IntN.{ℤ}
 use lib.Ieee.{Float}
-use Rattle.real.specs.F64.{_⊖_, _<ᶠ_, _≤ᶠ_, bits, two^, f0}
+use Rattle.real.specs.F64.{_⊖_, _<ᶠ_, _≤ᶠ_, bits, f0}
 use Rattle.vector.specs.declared.Vector.{Vector}
 use Rattle.vector.specs.declared.State.{State}
-use Rattle.vector.specs.Vectors.{positionOf, velocityOf, stateOf, lengthOf}
+use Rattle.vector.specs.Vectors.{positionOf, velocityOf, stateOf, lengthOf, differenceOf}
+use Rattle.table.specs.Tests.{allMeet}
+use Rattle.rows.specs.Rows.{radiusRow}
 use Rattle.solve.specs.declared.Advanced.{Advanced}
 use Rattle.solve.specs.declared.Advanced.the-variants as Ad
 use Rattle.solve.specs.Answers.{advanceOf}
@@ -24,7 +26,7 @@ use Rattle.elapsed.specs.Elapsed.{atLeast, elapsedOf}
 use Rattle.coelliptic.specs.declared.Angle.{Angle}
 use Rattle.coelliptic.specs.declared.Passive.{Passive}
 use Rattle.coelliptic.specs.declared.Speeds.{Speeds}
-use Rattle.coelliptic.specs.Coelliptic.{differenceOf, angleOf, passiveOf, axisOf, speedsOf, newOf}
+use Rattle.coelliptic.specs.Coelliptic.{angleOf, passiveOf, axisOf, speedsOf, newOf}
 use Rattle.burn.specs.declared.Centre.{Centre}
 use Rattle.burn.specs.declared.Brought.{Brought}
 use Rattle.burn.specs.declared.Brought.the-variants as B
@@ -111,7 +113,7 @@ fromActive k (B.Refused n) passive = Refused n
 
 -- 22: the radius is over 0 and under 2^29
 abbrev pub radiusAllowed : Float → Bool
-radiusAllowed radius = f0 <ᶠ radius && radius <ᶠ two^ 29
+radiusAllowed radius = allMeet (radiusRow radius)
 
 -- 14, 22, 25, the advances to T2, and the burn
 unfoldable pub burnOf : Centre → State → ℤ → State → ℤ → ℤ → ℤ → Burn

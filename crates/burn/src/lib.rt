@@ -6,6 +6,7 @@ use coelliptic::Passive;
 use coelliptic::Speeds;
 use elapsed::Elapsed;
 use solve::Advanced;
+use table::Test;
 use theta::TransferTime;
 use vector::State;
 use vector::Vector;
@@ -113,7 +114,7 @@ fn judged(k: Centre, change: Vector, a: Apsides) -> Burn
 fn changed(k: Centre, active: State, new: Vector) -> Burn
     ensures { λ r. ⌜ r ≡ changedOf k active new ⌝ }
 {
-    let change = coelliptic::difference(new, vector::velocity(active));
+    let change = vector::difference(new, vector::velocity(active));
     let after = vector::state_of(vector::position(active), new);
     judged(k, change, apsides::periapo(k.mu, after))
 }
@@ -165,7 +166,10 @@ fn from_passive(k: Centre, active: State, p: Brought) -> Burn
 fn radius_allowed(radius: f64) -> bool
     ensures { λ r. ⌜ r ≡ radiusAllowed radius ⌝ }
 {
-    (0.0 < radius) & (radius < 536870912.0)
+    match rows::radius_row(Test::Passed, radius) {
+        Test::Passed => true,
+        Test::Failed(_) => false,
+    }
 }
 
 // The burn at t2 of the active vehicle, whose state is of the time ta, under the passive one, whose state is of tp; t3 is

@@ -1,20 +1,16 @@
 -- Every line fits 512 bytes. Assumes nothing.
-use Prim.Native.Nat.{ℕ, _≤_}
+use Prim.Native.Nat.{_≤_}
 use native.Mathlib.Omega.{arith}
-use mathlib.Core.List.{List, [], _∷_}
-use lib.ListN.{length, length-append}
+use mathlib.Core.List.{[], _∷_}
+use lib.ListN.{length-append}
 use lib.Ieee.{Float}
 use Rattle.text.specs.Text.{ascii}
-use Rattle.text.specs.Pieces.{concat}
-use Rattle.text.proofs.Lays.{concat-append}
+use Rattle.text.proofs.Lays.{size, concat-append}
 use Rattle.columns.proofs.RowLaws.{end-short, labelled-short, refused-fits}
 use Rattle.vector.specs.declared.Vector.{Vector}
 use Rattle.burn.specs.declared.Burn.{Burn}
 use Rattle.burn.specs.declared.Burn.the-variants.{Closed, Open, Refused}
 use Rattle.changes.specs.Changes.{closedPieces, openPieces, burnPieces}
-
-abbrev size : List (List ℕ) → ℕ
-size xs = length (concat xs)
 
 closed-short : (d : Vector) (near far : Float) → size (closedPieces d near far) ≤ 512
 unfolding closedPieces

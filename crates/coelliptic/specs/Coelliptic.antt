@@ -6,15 +6,11 @@ use Rattle.real.specs.F64.{_⊕_, _⊖_, _⊗_, _⊘_, f1, f2}
 use Rattle.root.specs.Root.{rootOf}
 use Rattle.vector.specs.declared.Vector.{Vector}
 use Rattle.vector.specs.declared.State.{State}
-use Rattle.vector.specs.Vectors.{positionOf, velocityOf, dotOf, crossOf, lengthOf, scaledOf, sumOf, dividedOf}
+use Rattle.vector.specs.Vectors.{positionOf, velocityOf, dotOf, crossOf, lengthOf, scaledOf, sumOf, differenceOf, dividedOf}
 use Rattle.conic.specs.Conic.{c2Of}
 use Rattle.coelliptic.specs.declared.Angle.{Angle}
 use Rattle.coelliptic.specs.declared.Passive.{Passive}
 use Rattle.coelliptic.specs.declared.Speeds.{Speeds}
-
--- a − b
-abbrev pub differenceOf : Vector → Vector → Vector
-differenceOf a b = record { x = a .x ⊖ b .x; y = a .y ⊖ b .y; z = a .z ⊖ b .z }
 
 -- a/|a|
 unfoldable pub unitOf : Vector → Vector

@@ -2,7 +2,7 @@
 use vector::State;
 use vector::Vector;
 ghost use mathlib.Core.Path.{_≡_};
-ghost use Rattle.coelliptic.specs.Coelliptic.{differenceOf, unitOf, normalOf, projectedOf, turnedBy, angleOf, passiveOf, axisOf, speedsOf, newOf};
+ghost use Rattle.coelliptic.specs.Coelliptic.{unitOf, normalOf, projectedOf, turnedBy, angleOf, passiveOf, axisOf, speedsOf, newOf};
 
 // The angle from the passive vehicle to the active one, in the passive plane.
 pub struct Angle {
@@ -24,17 +24,6 @@ pub struct Speeds {
     pub radicand: f64,
 }
 
-// a − b
-pub fn difference(a: Vector, b: Vector) -> Vector
-    ensures { λ r. ⌜ r ≡ differenceOf a b ⌝ }
-{
-    Vector {
-        x: a.x - b.x,
-        y: a.y - b.y,
-        z: a.z - b.z,
-    }
-}
-
 // a/|a|
 fn unit(a: Vector) -> Vector
     ensures { λ r. ⌜ r ≡ unitOf a ⌝ }
@@ -53,7 +42,7 @@ fn normal(s: State) -> Vector
 fn projected(r: Vector, n: Vector) -> Vector
     ensures { λ q. ⌜ q ≡ projectedOf r n ⌝ }
 {
-    difference(r, vector::scaled(vector::dot(r, n), n))
+    vector::difference(r, vector::scaled(vector::dot(r, n), n))
 }
 
 // The sine and the cosine from one unit vector to another, about n.

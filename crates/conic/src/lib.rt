@@ -38,7 +38,7 @@ pub enum Trial {
 pub fn grid(n: i64) -> f64
     ensures { λ r. ⌜ r ≡ gridOf n ⌝ }
 {
-    std::num::nearest_i64_to_f64(n) * 9.5367431640625e-7
+    real::nearest(n) * 9.5367431640625e-7
 }
 
 // c2 of a state, from r1 = |r|.

@@ -23,7 +23,7 @@ fn times(
 {
     match forms::ends_at(line, 18) {
         Ends::Read(t2, t3) => {
-            if forms::is_end(line, 20) {
+            if words::is_end(line, 20) {
                 return Request::Burn {
                     body,
                     radius,
@@ -53,7 +53,7 @@ fn passive_time(
 ) -> Request
     ensures { λ r. ⌜ r ≡ readBy (passiveTime body radius mu active ta passive) 17 (now (line .entry)) ⌝ }
 {
-    match forms::signed_at(line, 17) {
+    match numerals::signed_at(line, 17) {
         Signed::Read(tp) => times(line, body, radius, mu, active, ta, passive, tp),
         Signed::Unread => Request::Unread(18),
     }
@@ -81,7 +81,7 @@ fn passive(line: &[u8], body: u64, radius: f64, mu: f64, active: State, ta: i64)
 fn active_time(line: &[u8], body: u64, radius: f64, mu: f64, active: State) -> Request
     ensures { λ r. ⌜ r ≡ readBy (activeTime body radius mu active) 10 (now (line .entry)) ⌝ }
 {
-    match forms::signed_at(line, 10) {
+    match numerals::signed_at(line, 10) {
         Signed::Read(ta) => passive(line, body, radius, mu, active, ta),
         Signed::Unread => Request::Unread(11),
     }

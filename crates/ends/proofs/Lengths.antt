@@ -3,38 +3,17 @@ use Prim.Native.Nat.{ℕ, _+_, _≤_}
 use native.Mathlib.Omega.{arith}
 use mathlib.Core.List.{List}
 use lib.ListN.{length, length-append}
-use lib.Dec.{lit≤}
-use lib.IntN.{ℤ, pos, negsuc}
-use Rattle.text.specs.Text.{ascii, signedText}
+use lib.IntN.{ℤ}
+use Rattle.brackets.proofs.Lengths.{judgement-short}
+use Rattle.text.specs.Text.{ascii}
 use Rattle.text.specs.Pieces.{concat}
 use Rattle.text.proofs.Decimals.{at-most}
-use Rattle.text.proofs.Lays.{concat-append}
-use Rattle.figures.proofs.Lengths.{bits-short}
-use Rattle.brackets.specs.Brackets.{judgementPieces, endPieces}
+use Rattle.text.proofs.Signs.{signed-short}
+use Rattle.text.proofs.Lays.{size, concat-append}
 use Rattle.iterator.specs.declared.Judgement.{Judgement}
-use Rattle.iterator.specs.declared.Judgement.the-variants.{Low, High, Under, Over}
 use Rattle.reason.specs.declared.Amiss.{Amiss}
 use Rattle.reason.specs.declared.Amiss.the-variants.{LoOffGrid, HiOffGrid, LoNotUnderHi, LoMisjudged, HiMisjudged, LoNotBelow, HiNotAbove, CountOver}
 use Rattle.ends.specs.Ends.{placePieces, misjudgedPieces, overPieces, amissPieces}
-
--- the length of pieces
-abbrev size : List (List ℕ) → ℕ
-size xs = length (concat xs)
-
-pub signed-short : (z : ℤ) → length (signedText z) ≤ 21
-signed-short (pos n) = omega (arith, at-most 20 n)
-signed-short (negsuc n) = omega (arith, at-most 20 (n + 1))
-
-judgement-short : (j : Judgement) → size (judgementPieces j) ≤ 22
-unfolding concat judgementPieces
-judgement-short (Low t) = simp length-append (omega (arith, bits-short t))
-judgement-short (High t) = simp length-append (omega (arith, bits-short t))
-judgement-short Under = lit≤ tt
-judgement-short Over = lit≤ tt
-
-pub place-judged : (n : ℤ) (j : Judgement) → size (endPieces n j) ≤ 45
-unfolding concat endPieces
-place-judged n j = simp length-append (omega (arith, signed-short n, judgement-short j))
 
 place-short : (end : List ℕ) (n : ℤ) (must : List ℕ) → size (placePieces end n must) ≤ length end + length must + 21
 unfolding concat placePieces

@@ -1,16 +1,16 @@
 -- A line that is entered ends within the buffer. Assumes nothing.
 use Prim.Native.Nat.{ℕ, _+_, _≤_}
 use native.Mathlib.Omega.{arith}
-use mathlib.Core.Path.{_≡_, refl, sym, ap, _∙_}
+use mathlib.Core.Path.{_≡_, refl}
 use mathlib.Core.List.{List}
 use mathlib.Core.Bool.{Bool, true, false, cond, not}
 use lib.ListN.{length}
 use lib.Dec.{leb}
 use borrow.Author.Tests.{leb-true}
+use Rattle.facts.proofs.Truth.{each}
 use Rattle.session.specs.Kinds.{lengthOf}
 use Rattle.session.specs.Layout.{kindIn}
 use Rattle.session.specs.Decode.{allowedIn}
-use Rattle.session.proofs.Numbers.{both}
 use Rattle.writer.specs.declared.record.Written.the-variants as W
 use Rattle.writer.specs.Write.{hasRoom, answered, offsetMay}
 use Rattle.entry.specs.declared.line.Entry.{Entry}
@@ -26,7 +26,7 @@ told true true m x e = (refl, cc)
 written-within : (may : Bool) (d : List ℕ) (at n x : ℕ) → asEntered (answered may d at n) ≡ Next x → x ≤ length d
 written-within may d at n x e =
     let t = told may (hasRoom at n (length d)) (at + n) x e in
-    let h = leb-true (at + n) (length d) (both (leb (at + n) (length d)) (leb (at + n) 65536) (t .0) .0) in
+    let h = leb-true (at + n) (length d) (each (leb (at + n) (length d)) (leb (at + n) 65536) (t .0) .0) in
     omega (arith, h, t .1)
 
 pub within : (d : List ℕ) (at : ℕ) (e : Entry) (x : ℕ) → at ≤ length d → enteredOf d at e ≡ Next x → x ≤ length d

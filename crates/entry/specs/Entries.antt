@@ -11,13 +11,12 @@ use lib.ListN.{length}
 use lib.Dec.{eqb, ltb}
 use lib.IntN.{ℤ}
 use Rattle.text.specs.Text.{ascii}
-use Rattle.words.specs.Words.{wordAt, startsWith, isWord}
+use Rattle.words.specs.Words.{wordAt, startsWith, isWord, isEnd}
 use Rattle.numerals.specs.Numbers.{wholeOf, signedOf}
 use Rattle.numerals.specs.declared.digits.Signed.{Signed}
 use Rattle.numerals.specs.declared.digits.Signed.the-variants as S
 use Rattle.numerals.specs.declared.digits.Whole.{Whole}
 use Rattle.numerals.specs.declared.digits.Whole.the-variants as W
-use Rattle.vector.specs.declared.Vector.{Vector}
 use Rattle.entry.specs.declared.parts.Stamp.{Stamp}
 use Rattle.entry.specs.declared.parts.Stamp.the-variants as St
 use Rattle.entry.specs.declared.parts.Pair.{Pair}
@@ -26,7 +25,7 @@ use Rattle.entry.specs.declared.parts.Triple.{Triple}
 use Rattle.entry.specs.declared.parts.Triple.the-variants as T
 use Rattle.entry.specs.declared.line.Entry.{Entry}
 use Rattle.entry.specs.declared.line.Entry.the-variants.{Nothing, Offset, State, Burn, Mark, Unread}
-use Rattle.entry.specs.Parts.{isEnd, stampOf, pairAt, vectorAt}
+use Rattle.entry.specs.Parts.{stampOf, pairAt, vectorAt}
 
 -- this is said if no word stands behind the first k
 unfoldable pub ended : ℕ → List ℕ → Entry → Entry

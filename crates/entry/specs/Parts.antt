@@ -1,10 +1,7 @@
 -- Parts of a line behind its first k words: what they say, or the number of the first word that cannot be read, the line's
 -- first word being 1. A missing word is empty, and no number is. Assumes nothing: these are definitions.
 use Prim.Native.Nat.{ℕ, _+_}
-use mathlib.Core.Bool.{Bool}
 use mathlib.Core.List.{List}
-use lib.ListN.{length}
-use lib.Dec.{eqb}
 use Rattle.words.specs.Words.{wordAt}
 use Rattle.numerals.specs.Numbers.{numberOf, wholeOf, signedOf}
 use Rattle.numerals.specs.declared.reals.Number.{Number}
@@ -19,10 +16,6 @@ use Rattle.entry.specs.declared.parts.Pair.{Pair}
 use Rattle.entry.specs.declared.parts.Pair.the-variants as P
 use Rattle.entry.specs.declared.parts.Triple.{Triple}
 use Rattle.entry.specs.declared.parts.Triple.the-variants as T
-
--- no word stands behind the first k words
-abbrev pub isEnd : ℕ → List ℕ → Bool
-isEnd k line = eqb (length (wordAt k line)) 0
 
 -- `TIME VEHICLE`, the second word and the third
 abbrev pub stamped : Signed → Whole → Stamp

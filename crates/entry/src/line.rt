@@ -6,12 +6,9 @@ ghost use Rattle.entry.specs.Entries.{ended, offsetOf, bodied, stateOf, 
 use crate::parts::Pair;
 use crate::parts::Stamp;
 use crate::parts::Triple;
-use crate::parts::is_end;
 use crate::parts::pair_at;
-use crate::parts::signed_at;
 use crate::parts::stamp_at;
 use crate::parts::vector_at;
-use crate::parts::whole_at;
 use numerals::Signed;
 use numerals::Whole;
 use vector::State;
@@ -47,7 +44,7 @@ fn only(line: &[u8], k: u32, e: Entry) -> Entry
     ensures { λ r. ⌜ r ≡ ended k (now (line .entry)) e ⌝ }
 {
     let at = k as u64;
-    if is_end(line, at) {
+    if words::is_end(line, at) {
         return e;
     }
     Entry::Unread(at + 1)
@@ -56,7 +53,7 @@ fn only(line: &[u8], k: u32, e: Entry) -> Entry
 fn offset(line: &[u8]) -> Entry
     ensures { λ r. ⌜ r ≡ offsetOf (now (line .entry)) ⌝ }
 {
-    match signed_at(line, 1) {
+    match numerals::signed_at(line, 1) {
         Signed::Read(minutes) => only(line, 2, Entry::Offset(minutes)),
         Signed::Unread => Entry::Unread(2),
     }
@@ -66,7 +63,7 @@ fn offset(line: &[u8]) -> Entry
 fn body(line: &[u8], time: i64, vehicle: u64) -> Entry
     ensures { λ r. ⌜ r ≡ bodied time vehicle (now (line .entry)) ⌝ }
 {
-    match whole_at(line, 3) {
+    match numerals::whole_at(line, 3) {
         Whole::Read(body) => match vector_at(line, 4) {
             Triple::Read(r) => match vector_at(line, 7) {
                 Triple::Read(v) => {

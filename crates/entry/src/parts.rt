@@ -2,8 +2,8 @@
 // cannot be read, the line's first word being 1.
 ghost use mathlib.Core.Path.{_≡_};
 ghost use Rattle.words.specs.Words.{wordAt};
-ghost use Rattle.numerals.specs.Numbers.{numberOf, wholeOf, signedOf};
-ghost use Rattle.entry.specs.Parts.{isEnd, stampOf, pairAt, vectorAt};
+ghost use Rattle.numerals.specs.Numbers.{numberOf};
+ghost use Rattle.entry.specs.Parts.{stampOf, pairAt, vectorAt};
 use numerals::Number;
 use numerals::Signed;
 use numerals::Whole;
@@ -27,36 +27,17 @@ pub enum Triple {
     Unread(u64),
 }
 
-// Whether the line has no word more.
-pub fn is_end(line: &[u8], k: u64) -> bool
-    ensures { λ r. ⌜ r ≡ isEnd k (now (line .entry)) ⌝ }
-{
-    words::word(line, k).len() == 0
-}
-
 fn number_at(line: &[u8], k: u64) -> Number
     ensures { λ r. ⌜ r ≡ numberOf (wordAt k (now (line .entry))) ⌝ }
 {
     numerals::read_number(words::word(line, k))
 }
 
-pub fn whole_at(line: &[u8], k: u64) -> Whole
-    ensures { λ r. ⌜ r ≡ wholeOf (wordAt k (now (line .entry))) ⌝ }
-{
-    numerals::read_whole(words::word(line, k))
-}
-
-pub fn signed_at(line: &[u8], k: u64) -> Signed
-    ensures { λ r. ⌜ r ≡ signedOf (wordAt k (now (line .entry))) ⌝ }
-{
-    numerals::read_signed(words::word(line, k))
-}
-
 pub fn stamp_at(line: &[u8]) -> Stamp
     ensures { λ r. ⌜ r ≡ stampOf (now (line .entry)) ⌝ }
 {
-    match signed_at(line, 1) {
-        Signed::Read(time) => match whole_at(line, 2) {
+    match numerals::signed_at(line, 1) {
+        Signed::Read(time) => match numerals::whole_at(line, 2) {
             Whole::Read(vehicle) => Stamp::Read(time, vehicle),
             Whole::Unread => Stamp::Unread(3),
         },

@@ -1,18 +1,22 @@
 -- Laws of little-endian fields and of two's complement. Assumes nothing.
-use Prim.Native.Nat.{ℕ, zero, suc, _+_, _-_, _*_, _^_, _≤_, _<_}
-use native.Mathlib.Nat.{pow-suc, pow-le-pow-right, zero-add, le-refl}
+use Prim.Native.Nat.{ℕ, suc, _+_, _-_, _*_, _^_, _≤_, _<_}
+use native.Mathlib.Nat.{pow-suc, pow-le-pow-right, le-refl}
 use native.Mathlib.Omega.{arith}
-use mathlib.Core.Path.{_≡_, refl, ap, _∙_}
+use mathlib.Core.Path.{_≡_, refl, sym, ap, _∙_}
+use mathlib.Core.Bool.{true, false, true≢false}
 use mathlib.Core.List.{List}
 use lib.ListN.{length, getD, take, drop, length-drop}
 use lib.Seq.{drop-cons, take-all}
 use lib.Arith.{digits-lt}
 use lib.Dec.{lit<}
 use lib.IntN.{ℤ, pos, negsuc, _-ℤ_}
+use lib.Signed.{mag}
 use mir.Syntax.{Width}
 use mir.Val.{toZ, hbits}
 use mir.Facts.{toZ-pos}
-use Rattle.field.specs.Bytes.{le}
+use Rattle.text.specs.Sign.{negative}
+use Rattle.text.proofs.Signs.{minus-one}
+use Rattle.field.specs.Bytes.{le, bitsOf}
 
 -- one byte more in front
 pub le-back : (p : List ℕ) (i : ℕ) → 0 < i → i ≤ length p → le (drop (i - 1) p) ≡ le (drop i p) * 256 + getD p (i - 1) 0
@@ -32,14 +36,19 @@ bound-seven k i v h l x =
     omega (arith, pow-le-pow-right {n = 256} (lit< tt) e)
 
 -- the upper half of the bits of a width, read as signed, by the distance from the top
-minus-one : (k : ℕ) → negsuc 0 -ℤ pos k ≡ negsuc k
-minus-one zero = refl
-minus-one (suc k) = ap (λ (n : ℕ). negsuc (suc n)) (zero-add k)
-
 pub turned : (w : Width) (m n : ℕ) → m - n < 2 ^ hbits w → negsuc 0 -ℤ toZ w (m - n) ≡ negsuc (suc m - suc n)
 turned w m n h =
     let e : m - n ≡ suc m - suc n = omega arith in
     ap (λ (z : ℤ). negsuc 0 -ℤ z) (toZ-pos w h) ∙ minus-one (m - n) ∙ ap negsuc e
+
+-- the bits of each half of the signed numbers
+pub bits-neg : (z : ℤ) → negative z ≡ true → 18446744073709551615 - mag z ≡ bitsOf z
+bits-neg (pos n) h = absurd (true≢false (sym h))
+bits-neg (negsuc n) h = omega arith
+
+pub bits-pos : (z : ℤ) → negative z ≡ false → mag z ≡ bitsOf z
+bits-pos (pos n) h = refl
+bits-pos (negsuc n) h = absurd (true≢false h)
 
 -- `&s[n..]` is what is left after n bytes
 pub rest : (s : List ℕ) (n : ℕ) → take (length s - n) (drop n s) ≡ drop n s

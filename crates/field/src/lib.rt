@@ -7,7 +7,7 @@ ghost use Prim.Native.Nat.{_%_, _^_, _≤_, _<_, min};
 ghost use mathlib.Core.Path.{_≡_};
 ghost use lib.ListN.{length};
 ghost use Rattle.real.specs.F64.{bits};
-ghost use Rattle.field.specs.Bytes.{le, readOf, signedOf, shortOf};
+ghost use Rattle.field.specs.Bytes.{le, readOf, signedOf, bitsOf, shortOf};
 
 // The number of the w bytes from `at` on, the least significant first: at most eight of them, and those that are there.
 pub fn read(s: &[u8], at: usize, w: usize) -> u64
@@ -18,6 +18,11 @@ pub fn read(s: &[u8], at: usize, w: usize) -> u64
         return 0;
     }
     let n = least(least(w, 8), s.len() - at);
+    if n == 8 {
+        // by itself, so that the compiler makes one load of it
+        let end = at + 8;
+        return le_of(&s[at..end]);
+    }
     let e = at + n;
     le_of(&s[at..e])
 }
@@ -31,6 +36,17 @@ pub fn signed(n: u64) -> i64
     } else {
         -1 - ((0xffff_ffff_ffff_ffff - n) as i64)
     }
+}
+
+// The 64 bits of a signed number.
+pub fn bits_of(z: i64) -> u64
+    ensures { λ r. ⌜ r ≡ bitsOf z ⌝ }
+{
+    let m = text::magnitude(z);
+    if text::is_negative(z) {
+        return 0xffff_ffff_ffff_ffff - m;
+    }
+    m
 }
 
 // 16 bits read as signed: the last of n.

@@ -1,5 +1,5 @@
 -- Laws of the last k digits of a number. Assumes nothing.
-use Prim.Native.Nat.{ℕ, zero, suc, _+_, _-_, _/_, _%_, _^_, _≤_, _<_, zero-le, suc-le-suc}
+use Prim.Native.Nat.{ℕ, zero, suc, _+_, _-_, _/_, _%_, _^_, _≤_, _<_}
 use native.Mathlib.Nat.{mod-lt}
 use native.Mathlib.Omega.{arith}
 use mathlib.Core.Path.{_≡_, refl, sym, ap, _∙_}
@@ -13,14 +13,10 @@ use Rattle.text.proofs.Stand.{at-front, then, same-size}
 use Rattle.text.proofs.Decimals.{short}
 use Rattle.figures.specs.Figures.{places, minusText}
 
-pub places-none : (base k n : ℕ) → k ≡ 0 → places base k n ≡ []
+pub places-more : (base k n : ℕ) → 0 < k → places base k n ≡ places base (k - 1) (n / base) ++ (digitText (n % base) ∷ [])
 unfolding places
-places-none base k n e = rw e refl
-
-pub places-more : (base k n : ℕ) → (k ≡ 0 → ⊥) → places base k n ≡ places base (k - 1) (n / base) ++ (digitText (n % base) ∷ [])
-unfolding places
-places-more base zero n z = absurd (z refl)
-places-more base (suc k) n z =
+places-more base zero n h = let z : ⊥ = omega arith in absurd z
+places-more base (suc k) n h =
     let e : k ≡ suc k - 1 = omega arith in
     ap (λ (j : ℕ). places base j (n / base) ++ (digitText (n % base) ∷ [])) e
 
@@ -29,10 +25,6 @@ unfolding places
 places-length base zero n = refl
 places-length base (suc k) n =
     length-append (places base k (n / base)) (digitText (n % base) ∷ []) ∙ omega (arith, places-length base k (n / base))
-
-pub nonzero : (k : ℕ) → (k ≡ 0 → ⊥) → 1 ≤ k
-nonzero zero z = absurd (z refl)
-nonzero (suc k) z = suc-le-suc zero-le
 
 small : (d : ℕ) → d < 16 → d % 16 ≡ d
 small d h = omega arith

@@ -4,7 +4,7 @@ use native.Mathlib.Nat.{div-eq-of-lt, lt-of-lt-of-le, lt-of-le-of-lt, le-trans, 
 use native.Mathlib.Omega.{arith}
 use mathlib.Core.Path.{_≡_, refl, sym, ap, _∙_, subst}
 use mathlib.Core.List.{_∷_}
-use mathlib.Core.Bool.{Bool, true, false, cond, not, true≢false}
+use mathlib.Core.Bool.{Bool, true, false, cond, not}
 use lib.Dec.{T, leb, eqb, lit≤}
 use lib.Pow.{shr-shr, shr-le, shl-lt, pow-mono, pow-add, pow-pos, mod-mod-pow}
 use lib.Ieee.{Float, nan, inf, fin, binary64, up, down, odd, ofBits, ofFields, toBits, isNan, ne}
@@ -135,12 +135,6 @@ large b h n =
     ∙ large-fields (leb (2 ^ 63) b) (b % 2 ^ 63 / 2 ^ 52) (b % 2 ^ 63 % 2 ^ 52) x (subst (λ (v : Float). T (not (isNan v))) (split b) n)
 
 -- ---- a NaN
-
-pub not-nan : (x : Float) → ne x x ≡ false → T (not (isNan x))
-unfolding ne isNan
-not-nan nan e = absurd (true≢false e)
-not-nan (inf s) e = tt
-not-nan (fin s m e) h = tt
 
 pub fixed-nan : (x : Float) → ne x x ≡ true → fixedOf x ≡ nanText
 unfolding fixedOf

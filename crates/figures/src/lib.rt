@@ -7,16 +7,19 @@ ghost use Rattle.text.specs.Text.{Stands, Put};
 ghost use Rattle.figures.specs.Figures.{places, minusText, millionths, fixedOf, bitsOf};
 ghost use Rattle.figures.specs.Millionths.{millionthsOf};
 
-// The last k digits of n to a base.
+// The last k digits of n to a base, the last one first.
 fn put_places(buf: &mut [u8], at: usize, n: u64, base: u64, k: usize) -> usize
     requires { ⌜ (at + k ≤ length (now buf)) × (1 ≤ base) × (base ≤ 16) ⌝ }
     ensures { λ r. ⌜ Stands (now (buf .entry)) at (places base k n) (now (buf .exit)) r ⌝ }
 {
-    if k == 0 {
-        return at;
+    let mut m = n;
+    let mut i = k;
+    while i > 0 {
+        i -= 1;
+        buf[at + i] = text::digit(m % base);
+        m /= base;
     }
-    let e = put_places(buf, at, n / base, base, k - 1);
-    text::byte(buf, e, text::digit(n % base))
+    at + k
 }
 
 // The millionths in the size of the number whose bits are b, below 2^43: the significand's product with 10^6 has up to

@@ -1,10 +1,10 @@
 -- Where an advance and a burn come to: at the time asked for, about the same body, in a state without a NaN or an infinity. Assumes nothing.
 use Prim.Native.Nat.{ℕ}
-use native.Mathlib.Omega.{arith}
 use mathlib.Core.Path.{_≡_, refl, subst}
 use mathlib.Core.Bool.{Bool, true, false, cond}
 use lib.IntN.{ℤ, _-ℤ_}
 use lib.Ieee.{Float, binary64, ofInt}
+use Rattle.facts.proofs.Wholes.{zero-one}
 use Rattle.vector.specs.declared.Vector.{Vector}
 use Rattle.vector.specs.Vectors.{velocityOf, sumOf}
 use Rattle.table.specs.declared.Name.the-variants.{Velocity}
@@ -28,9 +28,6 @@ pub record Came (f : Flight) (t : ℤ) (g : Flight) : Type 0 where
   pub time : g .time ≡ t
   pub body : g .body ≡ f .body
   pub state : FiniteState (g .state)
-
-zero-one : _≡_ {A = ℕ} 0 1 → ⊥
-zero-one e = omega arith
 
 pub not-refused : (n : ℕ) (g : Flight) → F.Refused n ≡ F.To g → ⊥
 not-refused n g e = let z : _≡_ {A = ℕ} 0 1 = cc in zero-one z

@@ -1,11 +1,13 @@
 -- An advance and a burn, case by case. Assumes nothing.
-use mathlib.Core.Path.{_≡_, ap, sym, subst}
-use mathlib.Core.Bool.{Bool, true, false, cond, not}
-use lib.Dec.{T, nltb→le}
+use Prim.Native.Nat.{ℕ}
+use mathlib.Core.Path.{_≡_, refl, ap}
+use mathlib.Core.Bool.{Bool, true, false, cond}
+use lib.Dec.{ltb}
 use lib.IntN.{ℤ, _-ℤ_, natAbs}
-use lib.Ieee.{binary64, ofInt}
-use mir.Syntax.{w64}
-use mir.Val.{SFits}
+use lib.Ieee.{Float, binary64, ofInt}
+use Rattle.facts.proofs.Wholes.{zero-one}
+use Rattle.elapsed.specs.declared.Elapsed.the-variants.{Cs, TooLong}
+use Rattle.elapsed.specs.Elapsed.{elapsedOf}
 use Rattle.vector.specs.declared.Vector.{Vector}
 use Rattle.vector.specs.Vectors.{velocityOf, sumOf}
 use Rattle.table.specs.declared.Name.the-variants.{Velocity}
@@ -19,12 +21,23 @@ use Rattle.flight.specs.declared.Mu.{Mu}
 use Rattle.flight.specs.declared.Flight.{Flight}
 use Rattle.flight.specs.declared.Flown.the-variants as F
 use Rattle.flight.specs.Flight.{muOf, tooFar, foundAs, flownOf, burntOf, burnedBy, burnedOf}
-use Rattle.flight.proofs.Spans.{near-fits}
 
--- a difference that is not too far is one of 64 bits
-pub span-fits : (f : Flight) (t : ℤ) → tooFar f t ≡ false → SFits w64 (t -ℤ f .time)
-unfolding tooFar
-span-fits f t h = near-fits (t -ℤ f .time) (nltb→le 268435456 (natAbs (t -ℤ f .time)) (subst (λ (b : Bool). T (not b)) (sym h) tt))
+-- what the exact difference of the two times says
+pub far-is : (f : Flight) (t : ℤ) → elapsedOf (f .time) t ≡ TooLong → tooFar f t ≡ true
+unfolding elapsedOf tooFar
+far-is f t e = go (ltb 268435456 (natAbs (t -ℤ f .time))) e
+  where
+    go : (b : Bool) → cond b TooLong (Cs (ofInt binary64 (t -ℤ f .time))) ≡ TooLong → b ≡ true
+    go true h = refl
+    go false h = let z : _≡_ {A = ℕ} 0 1 = cc in absurd (zero-one z)
+
+pub near-is : (f : Flight) (t : ℤ) (x : Float) → elapsedOf (f .time) t ≡ Cs x → (tooFar f t ≡ false) × (ofInt binary64 (t -ℤ f .time) ≡ x)
+unfolding elapsedOf tooFar
+near-is f t x e = go (ltb 268435456 (natAbs (t -ℤ f .time))) e
+  where
+    go : (b : Bool) → cond b TooLong (Cs (ofInt binary64 (t -ℤ f .time))) ≡ Cs x → (b ≡ false) × (ofInt binary64 (t -ℤ f .time) ≡ x)
+    go false h = (refl, cc)
+    go true h = let z : _≡_ {A = ℕ} 0 1 = cc in absurd (zero-one z)
 
 pub flown-far : (mu : Mu) (f : Flight) (t : ℤ) → tooFar f t ≡ true → flownOf mu f t ≡ F.Refused 5
 unfolding flownOf

@@ -6,7 +6,7 @@ use lib.IntN.{ℤ, _-ℤ_, natAbs}
 use lib.Ieee.{Float, binary64, ofInt}
 use Rattle.real.specs.F64.{_⊖_}
 use Rattle.vector.specs.declared.Vector.{Vector}
-use Rattle.vector.specs.Vectors.{positionOf, velocityOf, stateOf, lengthOf, sumOf}
+use Rattle.vector.specs.Vectors.{positionOf, velocityOf, stateOf, lengthOf, sumOf, differenceOf}
 use Rattle.table.specs.declared.Name.the-variants.{Velocity}
 use Rattle.table.specs.declared.Test.{Test}
 use Rattle.table.specs.declared.Test.the-variants.{Passed, Failed}
@@ -53,9 +53,6 @@ unfoldable pub burnedOf : Flight → Vector → Flown
 burnedOf f d = burnedBy (firstFailing (velocityComponents 4 Velocity (sumOf (velocityOf (f .state)) d))) (burntOf f d)
 
 -- ---- computed range minus recorded range, with range = |r0 − r1|
-
-abbrev pub differenceOf : Vector → Vector → Vector
-differenceOf a b = record { x = a .x ⊖ b .x; y = a .y ⊖ b .y; z = a .z ⊖ b .z }
 
 unfoldable pub offOf : Flight → Flight → Float → Float
 offOf a b range = lengthOf (differenceOf (positionOf (a .state)) (positionOf (b .state))) ⊖ range

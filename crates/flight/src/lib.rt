@@ -1,14 +1,12 @@
 // The flight of one vehicle: advanced to a time by Kepler, and through a burn; and how far two are from a range measured.
-mod times;
-
+use elapsed::Elapsed;
 use solve::Advanced;
 use table::Name;
 use table::Test;
-use times::apart;
 use vector::State;
 use vector::Vector;
 ghost use mathlib.Core.Path.{_≡_};
-ghost use Rattle.flight.specs.Flight.{muOf, tooFar, foundAs, flownOf, burnedOf, differenceOf, offOf};
+ghost use Rattle.flight.specs.Flight.{muOf, tooFar, foundAs, flownOf, burnedOf, offOf};
 
 // mu of each body.
 pub struct Mu {
@@ -41,7 +39,10 @@ fn mu_of(mu: Mu, body: u8) -> f64
 pub fn too_far(f: Flight, time: i64) -> bool
     ensures { λ r. ⌜ r ≡ tooFar f time ⌝ }
 {
-    apart(f.time, time) > 268435456
+    match elapsed::between(f.time, time) {
+        Elapsed::Cs(_) => false,
+        Elapsed::TooLong => true,
+    }
 }
 
 // The flight of a body at a time, in the state that an advance found.
@@ -60,11 +61,11 @@ fn found(body: u8, time: i64, a: Advanced) -> Flown
 pub fn fly(mu: Mu, f: Flight, time: i64) -> Flown
     ensures { λ r. ⌜ r ≡ flownOf mu f time ⌝ }
 {
-    if too_far(f, time) {
-        return Flown::Refused(5);
+    let cs = elapsed::between(f.time, time);
+    match cs {
+        Elapsed::Cs(t) => found(f.body, time, solve::advance(mu_of(mu, f.body), f.state, t)),
+        Elapsed::TooLong => Flown::Refused(5),
     }
-    let t = std::num::nearest_i64_to_f64(time - f.time);
-    found(f.body, time, solve::advance(mu_of(mu, f.body), f.state, t))
 }
 
 // A velocity change added to a flight.
@@ -85,21 +86,10 @@ pub fn burn(f: Flight, change: Vector) -> Flown
     }
 }
 
-// a - b
-fn difference(a: Vector, b: Vector) -> Vector
-    ensures { λ r. ⌜ r ≡ differenceOf a b ⌝ }
-{
-    Vector {
-        x: a.x - b.x,
-        y: a.y - b.y,
-        z: a.z - b.z,
-    }
-}
-
 // Computed range minus recorded range.
 pub fn off(a: Flight, b: Flight, range: f64) -> f64
     ensures { λ r. ⌜ r ≡ offOf a b range ⌝ }
 {
-    let d = difference(vector::position(a.state), vector::position(b.state));
+    let d = vector::difference(vector::position(a.state), vector::position(b.state));
     vector::length(d) - range
 }

@@ -2,7 +2,7 @@
 use Prim.Native.Nat.{ℕ, zero, suc, _-_, _≤_, _<_, zero-le}
 use native.Mathlib.Omega.{arith}
 use mathlib.Core.Path.{_≡_, refl, sym, ap, _∙_}
-use mathlib.Core.List.{List, [], _∷_, _++_, append-assoc, append-nil}
+use mathlib.Core.List.{List, [], _++_, append-assoc, append-nil}
 use mathlib.Core.Bool.{Bool, true, false, cond}
 use lib.ListN.{length, drop}
 use lib.Dec.{ltb}
@@ -14,11 +14,11 @@ use Rattle.session.specs.Read.{start, readAt}
 use Rattle.session.proofs.Progress.{by-record, by-offset, progress}
 use Rattle.lines.specs.declared.line.Made.{Made}
 use Rattle.lines.specs.Lines.{InFront, headingText}
-use Rattle.report.specs.declared.Next.the-variants.{Heading, At, Done}
-use Rattle.report.specs.Listing.{Step, stepFor, stepsFrom, textOf, listingOf}
+use Rattle.report.specs.declared.Next.the-variants.{Heading, At}
+use Rattle.report.specs.Listing.{stepFor, stepsFrom, textOf, listingOf}
 use Rattle.report.proofs.Whole.{line-by-line, nothing-left}
 use Rattle.stream.specs.declared.Standing.the-variants.{Open}
-use Rattle.stream.specs.Stream.{Ending, Run, behind, limit, wholeFrom, wholeOf, concat}
+use Rattle.stream.specs.Stream.{Ending, Run, behind, limit, wholeFrom, concat}
 use Rattle.stream.specs.Calls.{Session}
 use Rattle.stream.proofs.Places.{goOn, read-whole}
 use Rattle.stream.proofs.Calls.{reads-whole}

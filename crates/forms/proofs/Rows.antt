@@ -10,13 +10,13 @@ use lib.ListN.{length, take, set, length-set}
 use lib.Seq.{take-all, take-suc-set}
 use lib.Ieee.{Float}
 use borrow.Author.Tests.{ne-eqb, eq-eqb}
-use Rattle.words.specs.Words.{wordAt}
+use Rattle.words.specs.Words.{wordAt, isEnd}
 use Rattle.numerals.specs.Numbers.{numberOf}
 use Rattle.numerals.specs.declared.reals.Number.{Number}
 use Rattle.numerals.specs.declared.reals.Number.the-variants as N
 use Rattle.forms.specs.declared.Request.{Request}
 use Rattle.forms.specs.declared.Request.the-variants.{Unread}
-use Rattle.forms.specs.Forms.{Form, end, numbers, isEnd, byNumber, readBy}
+use Rattle.forms.specs.Forms.{Form, end, numbers, byNumber, readBy}
 use Rattle.forms.specs.Parts.{Numbers, OnlyNumbers}
 use Rattle.forms.proofs.Steps.{by-end}
 

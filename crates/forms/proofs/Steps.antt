@@ -6,7 +6,7 @@ use mathlib.Core.Bool.{Bool, cond}
 use lib.IntN.{ℤ}
 use lib.Ieee.{Float}
 use Rattle.iterator.specs.declared.Judgement.{Judgement}
-use Rattle.words.specs.Words.{wordAt, isWord}
+use Rattle.words.specs.Words.{wordAt, isWord, isEnd}
 use Rattle.numerals.specs.Numbers.{numberOf, signedOf, wholeOf}
 use Rattle.numerals.specs.declared.reals.Number.{Number}
 use Rattle.numerals.specs.declared.reals.Number.the-variants as N
@@ -19,7 +19,7 @@ use Rattle.forms.specs.declared.judgement.Judged.the-variants as J
 use Rattle.forms.specs.declared.Request.{Request}
 use Rattle.forms.specs.declared.Request.the-variants.{Unread}
 use Rattle.forms.specs.Judgements.{judgedOf}
-use Rattle.forms.specs.Forms.{Form, end, number, signed, whole, judgement, word, none, isEnd, byNumber, bySigned, byWhole, byJudged, readBy}
+use Rattle.forms.specs.Forms.{Form, end, number, signed, whole, judgement, word, none, byNumber, bySigned, byWhole, byJudged, readBy}
 
 module _ (k : ℕ) (line : List ℕ) where
   pub by-number : (go : Float → Form) {n m : Number} → n ≡ numberOf (wordAt k line) → n ≡ m

@@ -1,14 +1,12 @@
 -- A form says what words a line is to have and what they make; here is how a line is read by one. Each word is read once,
 -- and the first that cannot be read is told by its number, the line's first word being 1. Assumes nothing: these are definitions.
 use Prim.Native.Nat.{ℕ, zero, suc, _+_}
-use mathlib.Core.Bool.{Bool, cond}
+use mathlib.Core.Bool.{cond}
 use mathlib.Core.List.{List, [], _∷_}
-use lib.ListN.{length}
-use lib.Dec.{eqb}
 use lib.IntN.{ℤ}
 use lib.Ieee.{Float}
 use Rattle.iterator.specs.declared.Judgement.{Judgement}
-use Rattle.words.specs.Words.{wordAt, isWord}
+use Rattle.words.specs.Words.{wordAt, isEnd, isWord}
 use Rattle.numerals.specs.Numbers.{numberOf, signedOf, wholeOf}
 use Rattle.numerals.specs.declared.reals.Number.{Number}
 use Rattle.numerals.specs.declared.reals.Number.the-variants as N
@@ -50,10 +48,6 @@ byWhole W.Unread go bad = bad
 abbrev pub byJudged : Judged → (Judgement → Request) → Request → Request
 byJudged (J.Read j) go bad = go j
 byJudged J.Unread go bad = bad
-
--- no word stands behind the first k words
-abbrev pub isEnd : ℕ → List ℕ → Bool
-isEnd k line = eqb (length (wordAt k line)) 0
 
 -- the request of a line whose first k words are read. A missing word is empty, and no number, judgement or name is.
 unfoldable pub readBy : Form → ℕ → List ℕ → Request

@@ -9,12 +9,10 @@ use lambert::Way;
 pub use parts::Ends;
 pub use parts::Sides;
 pub use parts::ends_at;
-pub use parts::is_end;
 pub use parts::judgement_at;
 pub use parts::numbers;
 pub use parts::only_numbers;
 pub use parts::sides_at;
-pub use parts::signed_at;
 use vector::State;
 use vector::Vector;
 

@@ -3,22 +3,13 @@
 ghost use Prim.Native.Nat.{_+_};
 ghost use mathlib.Core.Path.{_≡_};
 ghost use Rattle.words.specs.Words.{wordAt};
-ghost use Rattle.numerals.specs.Numbers.{signedOf};
 ghost use Rattle.forms.specs.Judgements.{judgedOf};
-ghost use Rattle.forms.specs.Forms.{isEnd};
 ghost use Rattle.forms.specs.Parts.{Numbers, OnlyNumbers, ReadsEnds, ReadsSides};
 use crate::judgement::Judged;
 use crate::judgement::read_judgement;
 use iterator::Judgement;
 use numerals::Number;
 use numerals::Signed;
-
-// Whether the line has no word more.
-pub fn is_end(line: &[u8], k: u64) -> bool
-    ensures { λ r. ⌜ r ≡ isEnd k (now (line .entry)) ⌝ }
-{
-    words::word(line, k).len() == 0
-}
 
 // Numbers, as many as there is room for: 0, or the number of the first word that is none.
 pub fn numbers(line: &[u8], k: u32, xs: &mut [f64]) -> u64
@@ -49,16 +40,10 @@ pub fn only_numbers(line: &[u8], k: u32, xs: &mut [f64]) -> u64
         return w;
     }
     let at = k as u64 + xs.len() as u64;
-    if is_end(line, at) {
+    if words::is_end(line, at) {
         return 0;
     }
     at + 1
-}
-
-pub fn signed_at(line: &[u8], k: u64) -> Signed
-    ensures { λ r. ⌜ r ≡ signedOf (wordAt k (now (line .entry))) ⌝ }
-{
-    numerals::read_signed(words::word(line, k))
 }
 
 pub fn judgement_at(line: &[u8], k: u64) -> Judged
@@ -77,8 +62,8 @@ pub fn ends_at(line: &[u8], k: u32) -> Ends
     ensures { λ r. ⌜ ReadsEnds r k (now (line .entry)) ⌝ }
 {
     let at = k as u64;
-    match signed_at(line, at) {
-        Signed::Read(lo) => match signed_at(line, at + 1) {
+    match numerals::signed_at(line, at) {
+        Signed::Read(lo) => match numerals::signed_at(line, at + 1) {
             Signed::Read(hi) => Ends::Read(lo, hi),
             Signed::Unread => Ends::Unread(at + 2),
         },

@@ -1,13 +1,9 @@
 -- A line that is made lies within its buffer, and so does a version that was stored. Assumes nothing.
 use Prim.Native.Nat.{ℕ, _≤_}
 use native.Mathlib.Omega.{arith}
-use mathlib.Core.Path.{_≡_, sym, ap, _∙_}
+use mathlib.Core.Path.{_≡_, sym}
 use mathlib.Core.List.{List}
-use lib.ListN.{length, drop, length-append}
-use borrow.Author.Tests.{le-ltb}
-use Rattle.text.specs.declared.Made.{Made}
-use Rattle.text.specs.declared.Made.the-variants.{Line}
-use Rattle.text.specs.Text.{InFront}
+use lib.ListN.{length}
 use Rattle.text.specs.Pieces.{concat, Laid}
 use Rattle.text.proofs.Stand.{same-size}
 use Rattle.text.proofs.Lays.{all-fit}
@@ -17,13 +13,6 @@ use Rattle.settings.specs.declared.Stored.the-variants.{Version, Refused}
 use Rattle.settings.specs.History.{storedOf, backOf}
 use Rattle.settings.proofs.Laws.{stored-within, back-within}
 use Rattle.history.specs.Within.{Within}
-
-pub line-inside : (room : ℕ) (x d e : List ℕ) (r : Made) (n : ℕ) → room ≤ length d → InFront room x d e r → r ≡ Line n → n ≤ length e
-line-inside room x d e r n h m q =
-    let a = rw (le-ltb (length d) room h) at (m .answer) in
-    let b = rw (le-ltb (length d) room h) at (m .buffer) in
-    let s : n ≡ length x = cc in
-    omega (arith, ap length b ∙ length-append x (drop (length x) d))
 
 pub laid-inside : {d : List ℕ} {xs : List (List ℕ)} {e : List ℕ} {r : ℕ} → Laid d 0 xs e r → length (concat xs) ≤ length d → r ≤ length e
 laid-inside l h = let p = all-fit l (omega (arith, h)) in omega (arith, p .within, same-size p)

@@ -1,14 +1,17 @@
 -- The trial of a run: from a sound start, and with a judge whose times are judged by `judgedOf`, it is never refused,
 -- its points are the run's own, and none is left exactly at neighbours. Assumes nothing.
-use Prim.Native.Nat.{ℕ, zero, suc, _+_, _*_, _^_, _≤_, _<_}
-use native.Mathlib.Omega.{arith}
-use mathlib.Core.Path.{_≡_, refl, sym, _∙_, subst}
-use mathlib.Core.Bool.{Bool, true, false, cond, not, _||_, true≢false}
-use borrow.Author.Tests.{ltb-true, ltb-false, lt-ltb, eq-eqb}
-use lib.Dec.{T, ltb, eqb}
+use Prim.Native.Nat.{ℕ, _+_, _^_, _≤_, _<_}
+use mathlib.Core.Path.{_≡_, refl, sym, _∙_}
+use mathlib.Core.Bool.{Bool, true, false, cond, not, true≢false}
+use borrow.Author.Tests.{ltb-true, ltb-false}
+use lib.Dec.{ltb}
 use lib.IntN.{ℤ, pos, negℤ}
 use lib.Signed.{ltZ, leZ, _<ℤ_, _≤ℤ_, ltZ-yes, leZ-yes}
-use lib.Ieee.{Float, nan, inf, fin, up, down, below, level, lt, le, eq, ofBits}
+use lib.Ieee.{Float, nan, inf, fin, below, lt, le, eq, ofBits}
+use lib.Ieee.Bits.{is-true}
+use Rattle.facts.proofs.Truth.{and-0, and-1, both, of-true}
+use Rattle.facts.proofs.Wholes.{zero-one}
+use Rattle.real.proofs.Order.{above-it}
 use Rattle.real.specs.F64.{_≤ᶠ_, finite}
 use Rattle.iterator.specs.Judged.{inTime, judgedOf}
 use Rattle.iterator.specs.Rule.{Grid, widthOf, pointOf}
@@ -18,7 +21,6 @@ use Rattle.iterator.specs.declared.Judgement.{Judgement}
 use Rattle.iterator.specs.declared.Judgement.the-variants.{Low, High, Under, Over}
 use Rattle.iterator.specs.declared.Bracket.{Bracket}
 use Rattle.iterator.specs.declared.Tried.the-variants.{Point, NoneLeft, Refused}
-use Rattle.real.proofs.Tests.{and-0, and-1, both}
 use Rattle.iterator.proofs.Whole.{lt-le, le-trans}
 use Rattle.iterator.proofs.Grids.{in-grid}
 use Rattle.iterator.proofs.Trials.{inside}
@@ -43,16 +45,6 @@ pub record Sound (asked : Float) (s : Bracket) : Type 0 where
   pub upper : isAbove (s .above) ≡ true
   pub below-agrees : agrees asked (s .below) ≡ true
   pub above-agrees : agrees asked (s .above) ≡ true
-
-zero-one : _≡_ {A = ℕ} 0 1 → ⊥
-zero-one z = omega arith
-
-of-true : {t : Bool} → t ≡ true → T t
-of-true e = subst T (sym e) tt
-
-is-true : (t : Bool) → T t → t ≡ true
-is-true true h = refl
-is-true false h = absurd h
 
 in-grid-is : {asked : Float} {s : Bracket} → Sound asked s → inGrid (s .lo) (s .hi) ≡ true
 unfolding inGrid
@@ -110,47 +102,6 @@ finite-is : {asked : Float} {s : Bracket} → Sound asked s → allFinite asked 
 unfolding allFinite
 finite-is {asked} {s} h =
     both (finite asked) _ (in-time-finite asked (h .asked-in)) (both (timeFinite (s .below)) _ (time-finite (s .below) (h .below-in)) (time-finite (s .above) (h .above-in)))
-
--- ---- of two finite numbers, what is not at or below is above
-or-0 : (x y : Bool) → (x || y) ≡ false → x ≡ false
-or-0 true y h = h
-or-0 false y h = refl
-
-or-1 : (x y : Bool) → (x || y) ≡ false → y ≡ false
-or-1 true y h = absurd (true≢false h)
-or-1 false y h = h
-
-unlevel : (s : Bool) (a : ℕ) (t : Bool) (b : ℕ) → (below s a t b || level s a t b) ≡ false → below t b s a ≡ true
-unlevel false a false b h = lt-ltb b a (apart a b (ltb-false a b (or-0 (ltb a b) _ h)) (λ e. true≢false (sym (both (eqb a b) true (eq-eqb a b e) refl) ∙ or-1 (ltb a b) _ h)))
-  where
-    apart : (a b : ℕ) → b ≤ a → (a ≡ b → ⊥) → b < a
-    apart a b h k = omega arith
-unlevel false a true b h = lt-ltb 0 (b + a) (some a b (λ e k. true≢false (sym (both (eqb a b) _ (eq-eqb a b e) (eq-eqb a 0 k)) ∙ h)))
-  where
-    some : (a b : ℕ) → (a ≡ b → a ≡ 0 → ⊥) → 0 < b + a
-    some zero zero k = absurd (k refl refl)
-    some zero (suc b) k = omega arith
-    some (suc a) b k = omega arith
-unlevel true a false b h =
-    absurd (true≢false (sym (both (eqb a b) _ (eq-eqb a b (zeros a b z .0)) (eq-eqb a 0 (zeros a b z .1))) ∙ or-1 (ltb 0 (a + b)) _ h))
-  where
-    z : a + b ≤ 0
-    z = ltb-false 0 (a + b) (or-0 (ltb 0 (a + b)) _ h)
-
-    zeros : (a b : ℕ) → a + b ≤ 0 → (a ≡ b) × (a ≡ 0)
-    zeros a b h = (omega arith, omega arith)
-unlevel true a true b h = lt-ltb a b (apart a b (ltb-false b a (or-0 (ltb b a) _ h)) (λ e. true≢false (sym (both (eqb a b) true (eq-eqb a b e) refl) ∙ or-1 (ltb b a) _ h)))
-  where
-    apart : (a b : ℕ) → a ≤ b → (a ≡ b → ⊥) → a < b
-    apart a b h k = omega arith
-
-pub above-it : (x y : Float) → finite x ≡ true → finite y ≡ true → le x y ≡ false → lt y x ≡ true
-unfolding le lt eq
-above-it (fin s m e) (fin t n d) h k l = unlevel s (m * up e * down d) t (n * up d * down e) l
-above-it (fin s m e) (inf t) h k l = absurd (true≢false (sym k))
-above-it (fin s m e) nan h k l = absurd (true≢false (sym k))
-above-it (inf s) y h k l = absurd (true≢false (sym h))
-above-it nan y h k l = absurd (true≢false (sym h))
 
 -- ---- what is told agrees with its judgement
 pub record Agreeing (asked : Float) (j : Judgement) : Type 0 where

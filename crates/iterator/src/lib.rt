@@ -4,7 +4,7 @@ ghost use mathlib.Core.Path.{_≡_};
 ghost use Prim.Native.Nat.{_<_};
 ghost use Rattle.iterator.specs.Judged.{inTime, judgedOf};
 ghost use Rattle.iterator.specs.Rule.{Grid, widthOf, within, secantOf, strideOf, pointOf};
-ghost use Rattle.iterator.specs.Same.{sameTime, kindOf, carriedOf, sameAs};
+ghost use Rattle.iterator.specs.Same.{sameTime, kindOf, hasTime, carriedOf, sameAs};
 ghost use Rattle.iterator.specs.Single.{timeFinite, allFinite, inGrid, timeInTime, allInTime};
 ghost use Rattle.iterator.specs.Single.{isBelow, agrees, endsAgree, soundOf, nextTrialOf, trialOf, moreLeft};
 
@@ -71,32 +71,32 @@ pub fn judged(asked: f64, t: f64) -> Judgement
     Judgement::High(t)
 }
 
-// d brought into 1..w-1.
+// d brought into 1..w-1; 1 where there is nothing between.
 fn brought(d: u64, w: u64) -> u64
-    requires { ⌜ 1 < w ⌝ }
     ensures { λ r. ⌜ r ≡ within d w ⌝ }
 {
     if d < 1 {
         return 1;
     }
-    if w - 1 < d {
-        return w - 1;
+    if d < w {
+        return d;
     }
-    d
+    if w < 2 {
+        return 1;
+    }
+    w - 1
 }
 
 // By the times at the two ends: q of the way, cut to a whole number.
 fn secant(asked: f64, w: u64, below: f64, above: f64) -> u64
-    requires { ⌜ 1 < w ⌝ }
     ensures { λ r. ⌜ r ≡ secantOf asked w below above ⌝ }
 {
     let q = (asked - below) / (above - below);
-    brought(real::cut(q * std::num::nearest_u64_to_f64(w)), w)
+    brought(real::cut(q * real::nearest_whole(w)), w)
 }
 
 // How far above lo the k-th trial lies, in a bracket w wide.
-fn stride(asked: f64, w: u64, below: Judgement, above: Judgement, k: u64) -> u64
-    requires { ⌜ 1 < w ⌝ }
+pub fn stride(asked: f64, w: u64, below: Judgement, above: Judgement, k: u64) -> u64
     ensures { λ r. ⌜ r ≡ strideOf asked w below above k ⌝ }
 {
     if k % 2 == 0 {
@@ -234,9 +234,9 @@ fn sound(asked: f64, lo: i64, hi: i64, below: Judgement, above: Judgement) -> bo
     ends_agree(asked, below, above)
 }
 
-// The k-th trial of a run, whose judgements are taken as they are: its point, or at hi - lo = 1 that none is left.
-// Only the ends are tested, for the grid.
-pub fn next_trial(asked: f64, lo: i64, hi: i64, below: Judgement, above: Judgement, k: u64) -> Tried
+// The k-th trial, with the judgements taken as they are: its point, or at hi - lo = 1 that none is left. Only the ends are
+// tested, for the grid.
+fn next_trial(asked: f64, lo: i64, hi: i64, below: Judgement, above: Judgement, k: u64) -> Tried
     ensures { λ r. ⌜ r ≡ nextTrialOf asked lo hi below above k ⌝ }
 {
     if !in_grid(lo, hi) {
@@ -297,7 +297,20 @@ fn kind(j: Judgement) -> u64
     }
 }
 
-fn carried(j: Judgement) -> f64
+// A judgement carries a time: low and high do.
+pub fn has_time(j: Judgement) -> bool
+    ensures { λ r. ⌜ r ≡ hasTime j ⌝ }
+{
+    match j {
+        Judgement::Low(_) => true,
+        Judgement::High(_) => true,
+        Judgement::Under => false,
+        Judgement::Over => false,
+    }
+}
+
+// The time that it carries; 0 where it carries none.
+pub fn carried(j: Judgement) -> f64
     ensures { λ r. ⌜ r ≡ carriedOf j ⌝ }
 {
     match j {

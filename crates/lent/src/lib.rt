@@ -8,8 +8,6 @@ ghost use lib.ListN.{getD};
 ghost use lib.Ieee.{nan};
 ghost use Rattle.field.specs.Bytes.{bitsOf};
 ghost use Rattle.lent.specs.Given.{vectorIn, stateIn};
-use text::is_negative;
-use text::magnitude;
 use vector::State;
 use vector::Vector;
 
@@ -21,6 +19,16 @@ pub fn number_at(s: &[f64], i: usize) -> f64
         return s[i];
     }
     0.0 / 0.0
+}
+
+// Word i, and 0 where there is none.
+pub fn word_at(s: &[u64], i: usize) -> u64
+    ensures { λ r. ⌜ r ≡ getD (now (s .entry)) i 0 ⌝ }
+{
+    if i < s.len() {
+        return s[i];
+    }
+    0
 }
 
 pub fn vector_in(s: &[f64]) -> Vector
@@ -55,9 +63,5 @@ pub fn state_in(s: &[f64]) -> State
 pub fn bits_of(z: i64) -> u64
     ensures { λ r. ⌜ r ≡ bitsOf z ⌝ }
 {
-    let m = magnitude(z);
-    if is_negative(z) {
-        return 0xffff_ffff_ffff_ffff - m;
-    }
-    m
+    field::bits_of(z)
 }

@@ -1,7 +1,6 @@
 -- What becomes of the buffer, by case; and an answer of whole numbers alone. Assumes nothing.
-use Prim.Native.Nat.{ℕ, _+_, _≤_}
-use native.Mathlib.Omega.{arith}
-use mathlib.Core.Path.{_≡_, refl, _∙_}
+use Prim.Native.Nat.{ℕ, _+_}
+use mathlib.Core.Path.{_≡_, refl}
 use mathlib.Core.Bool.{Bool, true, false, cond, not}
 use mathlib.Core.List.{List, []}
 use lib.IntN.{ℤ}
@@ -10,32 +9,19 @@ use lib.Ieee.{Float}
 use Rattle.session.specs.declared.record.Record.{Record}
 use Rattle.session.specs.declared.record.Record.the-variants as K
 use Rattle.session.specs.Kinds.{lengthOf}
-use Rattle.session.specs.Layout.{kindIn, numbersIn, bytesOf}
+use Rattle.session.specs.Layout.{kindIn}
 use Rattle.session.specs.Offset.{offsetBytes}
 use Rattle.session.specs.Decode.{allowedIn}
 use Rattle.writer.specs.declared.record.Written.the-variants as W
 use Rattle.writer.specs.Write.{hasRoom, writtenOf, bufferOf, offsetMay, offsetWritten, offsetBuffer}
-use Rattle.lent.specs.Given.{Told, answer, refused, roomFor, numberOf, numbersAfter, wholesAfter, bytesAfter, putIn, Given, GivenWholes}
+use Rattle.lent.specs.Given.{Told, answer, refused, roomFor, numbersAfter, bytesAfter, putIn, Given}
 use Rattle.lent.proofs.Gives.{Fit, put-wholes}
-use Rattle.session.specs.declared.record.Kind.{Kind}
-use Rattle.session.specs.declared.record.Kind.the-variants.{State, Burn, Mark}
-use Rattle.session.specs.Layout as Y
-use Rattle.lines.specs.Days.{localOf}
-use Rattle.lines.specs.Lines.{recordText, eventText}
-use Rattle.library_records.specs.Records.{writtenTold, written, recordWritten, madeTold, lineMade}
-use Rattle.lent.specs.Given.{inFront}
-use Rattle.lines.specs.declared.line.Made.the-variants as M
-use lib.Dec.{ltb}
+use Rattle.library_records.specs.Records.{writtenTold, written, recordWritten}
 
 -- no numbers, only whole numbers
 pub put-none : {zs w v : List ℕ} {d : List Float} → v ≡ putIn zs w → Fit zs w → Given (answer [] zs) d w d v 0
 unfolding numbersAfter
 put-none {zs} q f = let g = put-wholes {xs = []} {zs = zs} q f in record { number = g .number; numbers = refl; wholes = g .wholes }
-
-pub numbers-few : (r : Record) → length (numbersIn r) ≤ 6
-numbers-few (K.State r) = omega arith
-numbers-few (K.Burn r) = omega arith
-numbers-few (K.Mark r) = omega arith
 
 pub short-bytes : (t : Told) (e d : List ℕ) → d ≡ bytesAfter (roomFor false t) e d
 unfolding roomFor bytesAfter
@@ -63,19 +49,3 @@ write-bytes d at r =
 pub offset-bytes : (d : List ℕ) (at : ℕ) (z : ℤ) → offsetBuffer d at z ≡ bytesAfter (roomFor true (writtenTold (offsetWritten d at z))) (written d at 8 (offsetBytes z)) d
 unfolding roomFor
 offset-bytes d at z = either (not (offsetMay at z)) (not (hasRoom at 8 (length d))) (at + 8) (written d at 8 (offsetBytes z)) d
-
-made : (a : Bool) (k : ℕ) (x d : List ℕ) → cond a d x ≡ bytesAfter (madeTold (cond a (M.Refused 15) (M.Line k))) x d
-unfolding bytesAfter madeTold
-made true k x d = refl
-made false k x d = refl
-
--- a line at the front, and a buffer of under 40 bytes as it was
-pub line-bytes : (x d : List ℕ) → cond (ltb (length d) 40) d (inFront x d) ≡ bytesAfter (roomFor true (madeTold (lineMade x d))) (inFront x d) d
-unfolding roomFor
-line-bytes x d = made (ltb (length d) 40) (length x) (inFront x d) d
-
--- of a record the line has the kind, the vehicle and the time
-pub line-of : (k : Kind) (v b : ℕ) (t : ℤ) (x : ℕ → Float) (o : ℤ) → recordText o (Y.recordWith k v b t x) ≡ eventText (localOf t o) v k
-line-of State v b t x o = refl
-line-of Burn v b t x o = refl
-line-of Mark v b t x o = refl

@@ -1,9 +1,9 @@
--- Reading, writing and listing records as a number and a case. A whole number that may be below 0 is handed out as its 64
--- bits. Assumes nothing: these are definitions.
+-- Reading and writing records as a number and a case. A whole number that may be below 0 is handed out as its 64 bits.
+-- Assumes nothing: these are definitions.
 use Prim.Native.Nat.{ℕ, _+_}
 use mathlib.Core.Bool.{cond, _&&_}
 use mathlib.Core.List.{List, [], _∷_, _++_}
-use lib.Dec.{leb, ltb, eqb}
+use lib.Dec.{leb, eqb}
 use lib.ListN.{length, take, drop, getD}
 use lib.IntN.{ℤ}
 use lib.Ieee.{Float, nan}
@@ -18,14 +18,10 @@ use Rattle.session.specs.Kinds.{numberOf, lengthOf}
 use Rattle.session.specs.Layout.{recordWith, kindIn, vehicleIn, byteIn, timeIn, numbersIn, bytesOf}
 use Rattle.session.specs.Offset.{offsetBytes}
 use Rattle.session.specs.Read.{readAt}
-use Rattle.lines.specs.Days.{localOf}
-use Rattle.lines.specs.Lines.{eventText}
-use Rattle.lines.specs.declared.line.Made.{Made}
-use Rattle.lines.specs.declared.line.Made.the-variants as M
 use Rattle.writer.specs.declared.record.Written.{Written}
 use Rattle.writer.specs.declared.record.Written.the-variants as W
 use Rattle.writer.specs.Write.{writtenOf, offsetWritten}
-use Rattle.lent.specs.Given.{Told, answer, refused, roomFor, inFront}
+use Rattle.lent.specs.Given.{Told, answer, refused, roomFor}
 
 -- ---- reading: the kind, 0 for the end; the place and the local offset behind it; the vehicle, the byte, the time; the numbers
 
@@ -79,26 +75,3 @@ recordWritten d at r = written d at (lengthOf (kindIn r)) (bytesOf r)
 
 abbrev pub offsetIn : List ℕ → ℕ → ℤ → List ℕ → Told
 offsetIn d at z w = roomFor (leb 1 (length w)) (writtenTold (offsetWritten d at z))
-
--- ---- lines: the line's length
-
-unfoldable pub madeTold : Made → Told
-madeTold (M.Line n) = answer [] (n ∷ [])
-madeTold (M.Refused n) = refused n
-
--- 15 for a buffer under 40 bytes
-abbrev pub lineMade : List ℕ → List ℕ → Made
-lineMade x d = cond (ltb (length d) 40) (M.Refused 15) (M.Line (length x))
-
-abbrev pub lineIn : List ℕ → List ℕ → List ℕ → Told
-lineIn x d w = roomFor (leb 1 (length w)) (madeTold (lineMade x d))
-
--- the line of a record, by a clock that is o minutes ahead; 13 for a kind that is none of the three
-abbrev pub recordLine : ℕ → ℕ → ℤ → ℤ → List ℕ
-recordLine k v t o = eventText (localOf t o) v (kindFrom k)
-
-unfoldable pub recordLineTold : ℕ → List ℕ → List ℕ → Told
-recordLineTold k x d = cond (leb 1 k && leb k 3) (madeTold (lineMade x d)) (refused 13)
-
-abbrev pub recordLineIn : ℕ → List ℕ → List ℕ → List ℕ → Told
-recordLineIn k x d w = roomFor (leb 1 (length w)) (recordLineTold k x d)

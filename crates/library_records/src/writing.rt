@@ -15,7 +15,7 @@ use session::Record;
 use session::StateRecord;
 use writer::Written;
 
-fn count_from(k: u64) -> usize
+pub fn count_from(k: u64) -> usize
     ensures { λ r. ⌜ r ≡ countFrom k ⌝ }
 {
     if k == 1 {

@@ -2,7 +2,7 @@
 use Prim.Native.Nat.{ℕ}
 use mathlib.Core.Path.{_≡_, refl}
 use mathlib.Core.List.{List, [], _∷_, map}
-use lib.Ieee.{Float, nan, binary64, ofBits, ofFields, odd, toBits, size, span, climb, eq}
+use lib.Ieee.{Float, nan, ofBits, ofFields, odd, toBits, size, span, climb, eq}
 use lib.Count.{trailingZeros}
 use Rattle.real.specs.F64.{bits, two^, two^-}
 use Rattle.text.specs.Text.{ascii, digitText, digits}

@@ -1,5 +1,5 @@
 -- A test that fails is told in at most 107 bytes. Assumes nothing.
-use Prim.Native.Nat.{ℕ, _+_, _-_, _/_, _^_, _≤_}
+use Prim.Native.Nat.{ℕ, _-_, _/_, _^_, _≤_}
 use native.Mathlib.Omega.{arith}
 use mathlib.Core.Bool.{Bool, true, false, cond}
 use mathlib.Core.List.{List, [], _∷_}
@@ -10,7 +10,7 @@ use Rattle.real.specs.F64.{bits}
 use Rattle.text.specs.Text.{ascii, decimal}
 use Rattle.text.specs.Pieces.{concat}
 use Rattle.text.proofs.Decimals.{at-most}
-use Rattle.text.proofs.Lays.{concat-append}
+use Rattle.text.proofs.Lays.{size, concat-append}
 use Rattle.figures.specs.Figures.{fixedOf}
 use Rattle.figures.proofs.Places.{places-length}
 use Rattle.figures.proofs.Lengths.{fixed-short}
@@ -19,10 +19,6 @@ use Rattle.table.specs.declared.Limit.the-variants.{Finite, AtLeast, AtMost, Un
 use Rattle.table.specs.declared.Entry.{Entry}
 use Rattle.names.proofs.Lengths.{name-short}
 use Rattle.limits.specs.Limits.{isPower, powerPieces, otherPieces, boundPieces, limitPieces, exactOf, amountPieces, failedPieces}
-
--- the length of pieces
-abbrev size : List (List ℕ) → ℕ
-size xs = length (concat xs)
 
 either : (b : Bool) (xs ys : List (List ℕ)) → size xs ≤ 23 → size ys ≤ 23 → size (cond b xs ys) ≤ 23
 either true xs ys p q = p

@@ -12,7 +12,7 @@ pub fn wheel(line: &[u8]) -> Request
 {
     match numerals::read_whole(words::word(line, 1)) {
         Whole::Read(e) => {
-            if forms::is_end(line, 2) {
+            if words::is_end(line, 2) {
                 return Request::Look(Look::Wheel(e));
             }
             Request::Unread(3)

@@ -4,7 +4,7 @@ use native.Mathlib.Nat.{sub-zero}
 use native.Mathlib.Omega.{arith}
 use mathlib.Core.Path.{_≡_, refl, sym, ap, _∙_}
 use mathlib.Core.List.{List, [], _++_, append-nil}
-use mathlib.Core.Bool.{Bool, true, false, not, _&&_}
+use mathlib.Core.Bool.{Bool, true, false, not, _&&_, and-false}
 use lib.ListN.{length, take, drop, length-append, length-drop, drop-of-length-le}
 use lib.Seq.{length-take-le, take-all, drop-drop}
 use lib.Dec.{eqb, leb, lit≤}
@@ -26,10 +26,6 @@ not-formed s e = rw e refl
 formed : (s : List ℕ) → wellFormed s ≡ true → overTen (length (places s)) (readOf 10 0 (allDigits s)) ≡ unsignedOf s
 unfolding unsignedOf
 formed s e = rw e refl
-
-and-false : (b : Bool) → (b && false) ≡ false
-and-false true = refl
-and-false false = refl
 
 -- the code's own words for the bounds
 pub room : (n p : ℕ) → p + (n - p - 1) ≤ 15 → p + (n - (p + 1)) ≤ 15

@@ -1,21 +1,21 @@
 -- A decimal is the f64 nearest to the number that it says: its whole number and the power of ten are exact, and their quotient is rounded once.
 -- Assumes nothing.
-use Prim.Native.Nat.{ℕ, suc, _+_, _*_, _%_, _^_, _≤_, _<_}
+use Prim.Native.Nat.{ℕ, suc, _+_, _*_, _^_, _≤_, _<_}
 use native.Mathlib.Nat.{le-trans, lt-of-lt-of-le, mul-one, one-mul, zero-mul, mul-assoc, mul-comm, mul-pos, mul-le-mul-right, pow-succ', pow-zero, pow-le-pow-right, lt-irrefl, le-of-lt, one-le-pow, add-mul, pos-of-ne-zero}
 use native.Mathlib.Omega.{arith}
 use mathlib.Core.Path.{_≡_, refl, sym, ap, _∙_, subst}
 use mathlib.Core.List.{List, [], _∷_}
-use mathlib.Core.Bool.{Bool, true, false, cond, not, _&&_, true≢false}
+use mathlib.Core.Bool.{Bool, true, false, cond, not}
 use lib.ListN.{length, length-append}
-use lib.Dec.{T, ltb, leb, eqb, lit<, lit≤}
+use lib.Dec.{ltb, eqb, lit<, lit≤}
 use lib.IntN.{pos}
-use lib.Ieee.{Float, nan, inf, fin, Format, binary64, up, down, round, div, ofInt, ofBits, ofFields, odd, isNan, nanBits}
+use lib.Ieee.{Float, nan, inf, fin, Format, binary64, up, down, round, div, ofInt}
 use lib.Ieee.Back.{round-whole}
 use lib.Ieee.Exact.{HasValue}
 use lib.Ieee.Fits.{down-pos, up-pos}
 use lib.Ieee.Scale.{round-same}
-use lib.Ieee.Bits.{nanBits-is, nanBits-above}
-use borrow.Author.Tests.{ltb-true, leb-true, ne-eqb, lt-ltb, le-ltb}
+use borrow.Author.Tests.{ltb-true, leb-true, ne-eqb}
+use Rattle.facts.proofs.Truth.{and-0, and-1}
 use Rattle.words.specs.declared.Byte.the-variants.{Point}
 use Rattle.numerals.specs.declared.digits.Whole.{Whole}
 use Rattle.words.specs.Words.{upTo, from}
@@ -65,28 +65,15 @@ pub below : (base v : ℕ) (s : List ℕ) → areDigits base s ≡ true → valu
 unfolding areDigits valueOf
 below base v [] e = rw (pow-zero base) (omega arith)
 below base v (b ∷ s) e =
-    let d : digitOf b < base = ltb-true (digitOf b) base (left (ltb (digitOf b) base) (areDigits base s) e) in
-    let r = below base (v * base + digitOf b) s (right (ltb (digitOf b) base) (areDigits base s) e) in
+    let d : digitOf b < base = ltb-true (digitOf b) base (and-0 (ltb (digitOf b) base) (areDigits base s) e) in
+    let r = below base (v * base + digitOf b) s (and-1 (ltb (digitOf b) base) (areDigits base s) e) in
     let g : v * base + digitOf b + 1 ≤ (v + 1) * base = rw (add-mul v 1 base, one-mul base) (omega arith) in
     let q : (v + 1) * base ^ suc (length s) ≡ (v + 1) * base * base ^ length s = ap (λ (z : ℕ). (v + 1) * z) (pow-succ' base (length s)) ∙ sym (mul-assoc (v + 1) base (base ^ length s)) in
     rw q (lt-of-lt-of-le r (mul-le-mul-right (base ^ length s) g))
-  where
-    left : (x y : Bool) → (x && y) ≡ true → x ≡ true
-    left true y h = refl
-    left false y h = h
-
-    right : (x y : Bool) → (x && y) ≡ true → y ≡ true
-    right true y h = h
-    right false y h = absurd (true≢false (sym h))
-
-few : (x y z : Bool) → (x && (y && z)) ≡ true → z ≡ true
-few true true z h = h
-few true false z h = absurd (true≢false (sym h))
-few false y z h = absurd (true≢false (sym h))
 
 sizes : (s : List ℕ) → wellFormed s ≡ true → length (allDigits s) ≤ 15
 unfolding wellFormed
-sizes s e = leb-true (length (allDigits s)) 15 (few (not (eqb (length (upTo Point s)) 0)) (not (eqb (length (from Point s)) 1)) (leb (length (allDigits s)) 15) e)
+sizes s e = leb-true (length (allDigits s)) 15 (and-1 (not (eqb (length (from Point s)) 1)) _ (and-1 (not (eqb (length (upTo Point s)) 0)) _ e))
 
 -- what is read is the nearest f64 to the whole number of the digits over the power of ten: IEEE 754's one rounding of the exact fraction
 pub nearest : (s : List ℕ) (x : Float) → unsignedOf s ≡ N.Read x → x ≡ round binary64 false (valueOf 10 0 (allDigits s)) (10 ^ length (places s))
@@ -107,21 +94,3 @@ nearest s x e = formed (wellFormed s) refl e
     formed : (b : Bool) → wellFormed s ≡ b → cond b (overTen (length (places s)) (readOf 10 0 (allDigits s))) N.Unread ≡ N.Read x → x ≡ round binary64 false (valueOf 10 0 (allDigits s)) (10 ^ length (places s))
     formed true f h = read (readOf 10 0 (allDigits s)) f refl h
     formed false f h = let z : _≡_ {A = ℕ} 0 1 = cc in absurd (omega arith)
-
--- ---- the bits of a NaN
-
-quiet : div binary64 (ofBits binary64 0) (ofBits binary64 0) ≡ nan
-unfolding div ofBits ofFields odd
-quiet = refl
-
-is-nan : (x : Float) → isNan x ≡ true → x ≡ nan
-unfolding isNan
-is-nan nan e = refl
-is-nan (inf s) e = absurd (true≢false (sym e))
-is-nan (fin s m e) h = absurd (true≢false (sym h))
-
-pub nan-bits : (n : ℕ) → 9218868437227405312 < n % 9223372036854775808 → div binary64 (ofBits binary64 0) (ofBits binary64 0) ≡ ofBits binary64 n
-nan-bits n h = quiet ∙ sym (is-nan (ofBits binary64 n) (sym (nanBits-is binary64 n) ∙ nanBits-above binary64 n ∙ lt-ltb _ _ h))
-
-pub no-nan-bits : (n : ℕ) → n % 9223372036854775808 ≤ 9218868437227405312 → T (not (nanBits binary64 n))
-no-nan-bits n h = rw (nanBits-above binary64 n, le-ltb _ _ h) tt

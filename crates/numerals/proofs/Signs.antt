@@ -2,7 +2,7 @@
 use Prim.Native.Nat.{ℕ, zero, suc, _-_, _^_, _≤_, _<_}
 use native.Mathlib.Omega.{arith}
 use mathlib.Core.Path.{_≡_, refl, ap, _∙_}
-use mathlib.Core.Bool.{Bool, true, false, _&&_}
+use mathlib.Core.Bool.{true, false, and-false}
 use mathlib.Core.Logic.{_⊎_, inl, inr}
 use lib.Dec.{leb}
 use lib.IntN.{ℤ, pos, negsuc, negℤ, _-ℤ_}
@@ -12,10 +12,6 @@ use mir.Facts.{toZ-pos}
 use borrow.Author.Tests.{le-leb, lt-leb}
 use Rattle.text.proofs.Signs.{minus-one}
 use Rattle.numerals.specs.Numbers.{between}
-
-and-false : (b : Bool) → (b && false) ≡ false
-and-false true = refl
-and-false false = refl
 
 pub outside : (lo hi b : ℕ) → (b < lo) ⊎ (hi < b) → between lo hi b ≡ false
 outside lo hi b (inl h) = rw (lt-leb lo b h) refl

@@ -4,7 +4,7 @@ use native.Mathlib.Nat.{le-refl, le-trans, le-mul-of-pos-right, le-div-iff-mul-l
 use native.Mathlib.Omega.{arith}
 use mathlib.Core.Path.{_≡_, refl, sym, ap, _∙_}
 use mathlib.Core.List.{List, [], _∷_, _++_}
-use mathlib.Core.Bool.{Bool, true, false, cond, _&&_}
+use mathlib.Core.Bool.{Bool, true, false, cond, _&&_, and-false}
 use mathlib.Core.Logic.{_⊎_, inl, inr}
 use lib.ListN.{length, getD, drop, drop-of-length-le}
 use lib.Dec.{ltb}
@@ -12,10 +12,6 @@ use borrow.Author.Tests.{lt-ltb, le-ltb, ltb-false}
 use Rattle.numerals.specs.declared.digits.Whole.the-variants.{Read, Unread}
 use Rattle.numerals.specs.Numbers.{digitOf, areDigits, valueOf, readOf}
 use Rattle.words.proofs.Searches.{step}
-
-and-false : (b : Bool) → (b && false) ≡ false
-and-false true = refl
-and-false false = refl
 
 -- a number with digits behind it is no smaller
 pub grows : (base v : ℕ) (s : List ℕ) → 1 ≤ base → v ≤ valueOf base v s

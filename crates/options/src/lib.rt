@@ -2,8 +2,6 @@
 // whose fractions grade it. What is there stands in this order, and a word that is none of these cannot be read.
 ghost use Prim.Native.Nat.{_^_, _<_};
 ghost use mathlib.Core.Path.{_≡_};
-ghost use Rattle.words.specs.Words.{wordAt};
-ghost use Rattle.numerals.specs.Numbers.{wholeOf};
 ghost use Rattle.options.specs.Options.{ReadsEnd, ReadsStop, ReadsEnded, ReadsVersion, ReadsLimited, ReadsOptions};
 use forms::Judged;
 use forms::Version;
@@ -31,17 +29,11 @@ pub enum Options {
     Unread(u64),
 }
 
-fn whole_at(line: &[u8], k: u64) -> Whole
-    ensures { λ r. ⌜ r ≡ wholeOf (wordAt k (now (line .entry))) ⌝ }
-{
-    numerals::read_whole(words::word(line, k))
-}
-
 fn end_at(line: &[u8], k: u64) -> End
     requires { ⌜ k < 2 ^ 34 ⌝ }
     ensures { λ r. ⌜ ReadsEnd r k (now (line .entry)) ⌝ }
 {
-    match forms::signed_at(line, k) {
+    match numerals::signed_at(line, k) {
         Signed::Read(n) => match forms::judgement_at(line, k + 1) {
             Judged::Read(j) => End::Read(n, j),
             Judged::Unread => End::Unread(k + 2),
@@ -59,7 +51,7 @@ fn bracket_at(line: &[u8], k: u64) -> Stop
         End::Unread(w) => Stop::Unread(w),
         End::Read(lo, below) => match end_at(line, k + 2) {
             End::Unread(w) => Stop::Unread(w),
-            End::Read(hi, above) => match whole_at(line, k + 4) {
+            End::Read(hi, above) => match numerals::whole_at(line, k + 4) {
                 Whole::Unread => Stop::Unread(k + 5),
                 Whole::Read(count) => Stop::Read(Bracket {
                     lo,
@@ -78,7 +70,7 @@ fn ended(line: &[u8], k: u64, g: Beginning, l: u64, v: Version) -> Options
     requires { ⌜ k < 2 ^ 35 ⌝ }
     ensures { λ r. ⌜ ReadsEnded r g l v k (now (line .entry)) ⌝ }
 {
-    if forms::is_end(line, k) {
+    if words::is_end(line, k) {
         return Options::Read(g, l, v);
     }
     Options::Unread(k + 1)
@@ -94,7 +86,7 @@ fn by_version(line: &[u8], k: u64, g: Beginning, l: u64) -> Options
         return ended(line, k, g, l, Version::Standard);
     }
     let behind = k + 2;
-    match whole_at(line, k + 1) {
+    match numerals::whole_at(line, k + 1) {
         Whole::Read(n) => ended(line, behind, g, l, Version::Named(n)),
         Whole::Unread => Options::Unread(behind),
     }
@@ -109,7 +101,7 @@ fn limited(line: &[u8], k: u64, g: Beginning) -> Options
     if !words::is_word(w, b"limit") {
         return by_version(line, k, g, 18446744073709551615);
     }
-    match whole_at(line, k + 1) {
+    match numerals::whole_at(line, k + 1) {
         Whole::Read(l) => by_version(line, k + 2, g, l),
         Whole::Unread => Options::Unread(k + 2),
     }

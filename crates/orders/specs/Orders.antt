@@ -13,7 +13,6 @@ use Rattle.numerals.specs.declared.reals.Number.{Number}
 use Rattle.numerals.specs.declared.reals.Number.the-variants as N
 use Rattle.numerals.specs.declared.digits.Whole.{Whole}
 use Rattle.numerals.specs.declared.digits.Whole.the-variants as W
-use Rattle.settings.specs.declared.allowed.Setting.{Setting}
 use Rattle.orders.specs.declared.Order.{Order}
 use Rattle.orders.specs.declared.Order.the-variants as O
 

@@ -1,18 +1,15 @@
 -- The tests of a bracket to go on from: it is fine exactly if every test is met; and what is amiss is that of the first test that fails,
 -- every test ahead of it being met. Assumes nothing.
 use Prim.Native.Nat.{ℕ}
-use native.Mathlib.Omega.{arith}
-use mathlib.Core.Path.{_≡_, refl, sym, ap, _∙_}
+use mathlib.Core.Path.{_≡_, refl, ap, _∙_}
 use mathlib.Core.Bool.{Bool, true, false, cond}
 use mathlib.Core.List.{List, [], _∷_, _++_}
-use Rattle.real.proofs.Tests.{and-0, and-1, both}
+use Rattle.facts.proofs.Truth.{and-0, and-1, both}
+use Rattle.facts.proofs.Wholes.{zero-one}
 use Rattle.reason.specs.declared.Amiss.{Amiss}
 use Rattle.problem.specs.Held.{EndTest, testedBy, _▸_, allMet}
 use Rattle.problem.specs.declared.Checked.{Checked}
 use Rattle.problem.specs.declared.Checked.the-variants.{Fine, Wrong}
-
-zero-one : _≡_ {A = ℕ} 0 1 → ⊥
-zero-one z = omega arith
 
 one-met : (c : Checked) (t : EndTest) → testedBy c t ≡ Fine → (c ≡ Fine) × (t .met ≡ true)
 unfolding testedBy

@@ -6,7 +6,7 @@ use native.Mathlib.Omega.{arith}
 use mathlib.Core.Path.{_≡_, refl, sym, ap, _∙_, subst}
 use mathlib.Core.Bool.{Bool, true, false, cond, _&&_, _||_, Bool·beq}
 use mathlib.Core.Logic.{inl, inr}
-use lib.IntN.{ℤ}
+use lib.IntN.{ℤ, pos}
 use lib.Dec.{T, lit≤, lt→ltb, ltb, eqb, ltb→lt, eqb→eq, eqb·suc-zero}
 use lib.Ieee as Ieee
 use lib.Ieee.{Float, nan, inf, fin, Format, binary64, up, down, odd, units, round, sum, add, mul, div, le, lt, eq, neg, isNan}
@@ -14,7 +14,8 @@ use lib.Ieee.Exact.{HasValue}
 use lib.Ieee.Order.{round-mono}
 use lib.Ieee.Back.{round-whole}
 use lib.Ieee.Fits.{round-is, up-pos, down-pos, and-i, eq→eqb}
-use Rattle.real.specs.F64.{_⊕_, _⊖_, _⊗_, _⊘_, finite}
+use Rattle.facts.proofs.Truth.{or-left, or-right}
+use Rattle.real.specs.F64.{_⊕_, _⊖_, _⊗_, _⊘_, _≤ᶠ_, finite}
 
 -- x is finite, and a or less in size
 abbrev pub Within : Float → ℕ → Type 0
@@ -103,13 +104,6 @@ or-cases a b t = either (ltb a b) (eqb a b) (a ≤ b) (λ u. le-of-lt (ltb→lt 
 pub or-cases' : (a b : ℕ) → T (ltb b a || eqb a b && true) → b ≤ a
 or-cases' a b t = either (ltb b a) (eqb a b) (b ≤ a) (λ u. le-of-lt (ltb→lt b a u)) (λ u. le-of-eq (sym (eqb→eq a b u))) t
 
-or-left : (p q : Bool) → T p → T (p || q)
-or-left true q t = tt
-
-or-right : (p q : Bool) → T q → T (p || q)
-or-right true q t = tt
-or-right false q t = t
-
 pub at-most : (a b : ℕ) → a ≤ b → T (ltb a b || eqb a b && true)
 at-most a b h = elim (eq-or-lt-of-le h) [
   | inl e ↦ or-right (ltb a b) (eqb a b && true) (and-i (eqb a b) true (eq→eqb e) tt)
@@ -118,7 +112,7 @@ at-most a b h = elim (eq-or-lt-of-le h) [
 
 -- ---- a fraction of at most a, rounded
 
-cross : (m n a e d : ℕ) → 0 < d → m * d ≤ n * e → n * 1 ≡ a * d → m ≤ a * e
+pub cross : (m n a e d : ℕ) → 0 < d → m * d ≤ n * e → n * 1 ≡ a * d → m ≤ a * e
 cross m n a e d p h v =
     le-of-mul-le-mul-right
     (subst (λ (k : ℕ). m * d ≤ k) (ap (λ (k : ℕ). k * e) (sym (mul-one n) ∙ v) ∙ mul-right-comm a d e) h)
@@ -143,6 +137,11 @@ round-below s n d a b p h =
     (below-whole (round binary64 false n d) (round binary64 false a 1) a (round-signed binary64 false n d)
     (round-mono binary64 n d a 1 p (lit≤ tt) (simp mul-one h))
     (round-whole binary64 false a b))
+
+-- and one of at least 1
+pub round-from-1 : (n d : ℕ) → 0 < d → d ≤ n → T (fin false 1 (pos 0) ≤ᶠ round binary64 false n d)
+unfolding round
+round-from-1 n d p h = round-mono binary64 1 1 n d (lit≤ tt) p (omega arith)
 
 -- ---- the operations
 
@@ -176,7 +175,7 @@ add-within (fin s m e) (fin t n d) a b l h k =
     (subst (λ (z : ℕ). m * up e * down d ≤ z) (mul-assoc a (down e) (down d)) (mul-le-mul-right (down d) h))
     (subst (λ (z : ℕ). n * up d * down e ≤ z) (mul-assoc b (down d) (down e) ∙ ap (λ (z : ℕ). b * z) (mul-comm (down d) (down e))) (mul-le-mul-right (down e) k))
 
-neg-within : (x : Float) (a : ℕ) → Within x a → Within (neg x) a
+pub neg-within : (x : Float) (a : ℕ) → Within x a → Within (neg x) a
 unfolding neg
 neg-within nan a h = absurd h
 neg-within (inf s) a h = absurd h

@@ -3,4 +3,6 @@ pub mod CutLaws
 pub mod Bounds
 pub mod Powers
 pub mod Finite
-pub mod Tests
+mod Wholes
+pub mod Patterns
+pub mod Order

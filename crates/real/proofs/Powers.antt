@@ -14,7 +14,7 @@ use lib.Ieee.Exact.{HasValue, round-exact}
 use lib.Ieee.Order.{round-mono}
 use lib.Ieee.Fits.{up-pos, down-pos}
 use Rattle.real.specs.F64.{_⊗_, _⊘_}
-use Rattle.real.proofs.Bounds.{Signed, round-signed, or-cases}
+use Rattle.real.proofs.Bounds.{Signed, round-signed, or-cases, cross}
 
 -- x is finite, its sign is plus, and it is 2 ^ k or less
 abbrev pub Up : Float → ℕ → Type 0
@@ -55,12 +55,6 @@ fraction k h =
     back k h = omega arith
 
 -- ---- a fraction of at most 2 ^ k, rounded
-
-cross : (m n a e d : ℕ) → 0 < d → m * d ≤ n * e → n * 1 ≡ a * d → m ≤ a * e
-cross m n a e d p h v =
-    le-of-mul-le-mul-right
-    (subst (λ (k : ℕ). m * d ≤ k) (ap (λ (k : ℕ). k * e) (sym (mul-one n) ∙ v) ∙ mul-right-comm a d e) h)
-    p
 
 below : (x y : Float) (k : ℕ) → Signed x false → T (le x y) → HasValue y false (2 ^ k) 1 → Up x k
 unfolding le lt eq

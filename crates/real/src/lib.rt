@@ -1,6 +1,8 @@
-// What every routine shares of f64: two tests, the cut to a whole number, and the answer of a
-// routine that gives one number.
+// What every routine shares of f64: two tests, a whole number as an f64 and an f64 cut to one, and the answer of a routine
+// that gives one number.
 ghost use mathlib.Core.Path.{_≡_};
+ghost use lib.IntN.{pos};
+ghost use lib.Ieee.{binary64, ofInt};
 ghost use Rattle.real.specs.F64.{finite, sizeOf, cutOf};
 
 // A number, or the number of the refusal.
@@ -35,4 +37,26 @@ pub fn cut(x: f64) -> u64
         return 18446744073709551615;
     }
     0
+}
+
+// The f64 nearest to n. Up to 2^53 in size that is n itself, which one instruction gives.
+pub fn nearest(n: i64) -> f64
+    ensures { λ r. ⌜ r ≡ ofInt binary64 n ⌝ }
+{
+    if -9007199254740992 <= n {
+        if n <= 9007199254740992 {
+            return n as f64;
+        }
+    }
+    std::num::nearest_i64_to_f64(n)
+}
+
+// The same for a number without a sign.
+pub fn nearest_whole(n: u64) -> f64
+    ensures { λ r. ⌜ r ≡ ofInt binary64 (pos n) ⌝ }
+{
+    if n <= 9007199254740992 {
+        return n as i64 as f64;
+    }
+    std::num::nearest_u64_to_f64(n)
 }

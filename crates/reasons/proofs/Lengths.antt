@@ -10,12 +10,13 @@ use lib.Ieee.{Float}
 use Rattle.text.specs.Text.{ascii, decimal}
 use Rattle.text.specs.Pieces.{concat}
 use Rattle.text.proofs.Decimals.{at-most}
-use Rattle.text.proofs.Lays.{concat-append}
+use Rattle.text.proofs.Signs.{signed-short}
+use Rattle.text.proofs.Lays.{size, concat-append}
 use Rattle.columns.specs.Rows as Rows
 use Rattle.columns.proofs.RowLaws.{end-short, labelled-short, refused-fits}
-use Rattle.brackets.proofs.Lengths.{stopped-fits}
+use Rattle.brackets.proofs.Lengths.{stopped-fits, place-judged}
 use Rattle.limits.proofs.Lengths.{failed-short}
-use Rattle.ends.proofs.Lengths.{signed-short, place-judged, amiss-fits}
+use Rattle.ends.proofs.Lengths.{amiss-fits}
 use Rattle.table.specs.declared.Entry.{Entry}
 use Rattle.iterator.specs.declared.Bracket.{Bracket}
 use Rattle.reason.specs.declared.Stop.{Stop}
@@ -24,10 +25,6 @@ use Rattle.reason.specs.declared.Neighbours.{Neighbours}
 use Rattle.reason.specs.declared.Reason.{Reason}
 use Rattle.reason.specs.declared.Reason.the-variants as R
 use Rattle.reasons.specs.Lines.{testPieces, stopPieces, becausePieces, neighbourPieces, timedPieces, betweenPieces, reasonPieces}
-
--- the length of pieces
-abbrev size : List (List ℕ) → ℕ
-size xs = length (concat xs)
 
 test-short : (word : List ℕ) (e : Entry) → size (testPieces word e) ≤ length word + 136
 unfolding concat testPieces

@@ -1,12 +1,12 @@
 -- What a record changes: a refused one nothing, a mark both vehicles or neither, a state and a burn no other vehicle than their own. Assumes nothing.
 use Prim.Native.Nat.{ℕ}
-use native.Mathlib.Omega.{arith}
 use mathlib.Core.Path.{_≡_, refl, sym, ap}
 use mathlib.Core.Logic.{_⊎_, inl, inr}
 use mathlib.Core.Bool.{Bool, true, false, cond, not, true≢false}
 use lib.Dec.{eqb}
 use lib.IntN.{ℤ}
 use lib.Ieee.{Float}
+use Rattle.facts.proofs.Wholes.{zero-one}
 use Rattle.session.specs.declared.record.Record.{Record}
 use Rattle.session.specs.declared.record.Record.the-variants as R
 use Rattle.session.specs.declared.record.MarkRecord.{MarkRecord}
@@ -23,9 +23,6 @@ use Rattle.replay.specs.declared.Answer.the-variants as A
 use Rattle.replay.specs.declared.Pair.{Pair}
 use Rattle.replay.specs.declared.Pair.the-variants as P
 use Rattle.replay.specs.Replay.{vehicleOf, withOf, burnFrom, metOf, bothOf, pairOf, pairFrom, burnDone, markDone, stepOf}
-
-zero-one : _≡_ {A = ℕ} 0 1 → ⊥
-zero-one e = omega arith
 
 -- ---- a refused record leaves the replay as it was
 

@@ -4,8 +4,8 @@ use mathlib.Core.List.{List, [], _∷_, _++_}
 use mathlib.Core.Bool.{Bool, true, false, _&&_, cond}
 use lib.Dec.{eqb}
 use Prim.Native.Nat.{ℕ}
+use Rattle.facts.proofs.Truth.{and-0, and-1}
 use Rattle.real.specs.F64.{finite}
-use Rattle.real.proofs.Tests.{and-0, and-1}
 use Rattle.vector.specs.Vectors.{velocityOf}
 use Rattle.table.specs.declared.Name.the-variants.{Velocity}
 use Rattle.table.specs.Tests.{allMeet}

@@ -1,10 +1,9 @@
 -- Every reply fits its room, and a line is what its pieces are. Assumes nothing.
 use Prim.Native.Nat.{ℕ, _≤_}
-use mathlib.Core.Path.{_≡_, subst}
 use mathlib.Core.List.{List}
 use lib.ListN.{length}
 use lib.Dec.{lit≤}
-use Rattle.text.specs.Pieces.{concat, Laid}
+use Rattle.text.specs.Pieces.{concat}
 use Rattle.root.specs.Root.{rootAnswer}
 use Rattle.series.specs.Series.{cAnswer, sAnswer}
 use Rattle.iterator.specs.Single.{trialOf}
@@ -53,6 +52,3 @@ reply-fits used (Q.Solve x) = solved-fits used x
 reply-fits used (Burn body radius mu active ta passive tp t2 t3) = burn-fits (burnOf (record { body = body; radius = radius; mu = mu }) active ta passive tp t2 t3)
 reply-fits used (Unread w) = unread-fits w
 reply-fits used (Q.Why x) = reason-fits (inquiryOf used x)
-
-pub laid-as : {d : List ℕ} {at : ℕ} {xs ys : List (List ℕ)} {e : List ℕ} {r : ℕ} → xs ≡ ys → Laid d at xs e r → Laid d at ys e r
-laid-as {d} {at} {xs} {ys} {e} {r} p l = subst (λ (zs : List (List ℕ)). Laid d at zs e r) p l

@@ -8,7 +8,7 @@ use lib.IntN.{ℤ, pos, +ℤ-idr}
 use Rattle.session.specs.declared.Reading.{Reading}
 use Rattle.session.specs.declared.Reading.the-variants.{Record, Offset, End, Refused}
 use Rattle.session.specs.Layout.{kindIn, vehicleIn, timeIn}
-use Rattle.session.specs.Read.{start, readAt}
+use Rattle.session.specs.Read.{start}
 use Rattle.session.proofs.Before.{read-01, as-before, Plain, plain, Reached, first, next, Old}
 use Rattle.lines.specs.Days.{localOf}
 use Rattle.lines.specs.Lines.{headingText, eventText, refusedText}

@@ -1,5 +1,5 @@
 -- A buffer under 40 bytes is refused; any other is filled, and what is answered of it is what stands there. Assumes nothing.
-use Prim.Native.Nat.{ℕ, _+_, _≤_, _<_}
+use Prim.Native.Nat.{ℕ, _≤_, _<_}
 use native.Mathlib.Omega.{arith}
 use mathlib.Core.Path.{_≡_, refl, sym, ap, _∙_}
 use mathlib.Core.List.{List, _++_}
@@ -9,7 +9,6 @@ use lib.Dec.{ltb}
 use borrow.Author.Tests.{lt-ltb, le-ltb, ltb-false}
 use Rattle.report.specs.declared.Next.{Next}
 use Rattle.report.specs.declared.Filled.{Filled}
-use Rattle.report.specs.declared.Filling.{Filling}
 use Rattle.report.specs.declared.Filling.the-variants.{Lines, Refused}
 use Rattle.report.specs.Listing.{stepsFrom, textIn, nextIn, Fills, FillOf}
 

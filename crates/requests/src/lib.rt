@@ -86,7 +86,7 @@ fn trial_counted(
 {
     match numerals::read_whole(words::word(line, 6)) {
         Whole::Read(k) => {
-            if forms::is_end(line, 7) {
+            if words::is_end(line, 7) {
                 return Request::Trial {
                     asked,
                     lo,

@@ -4,8 +4,10 @@ use native.Mathlib.Omega.{arith}
 use mathlib.Core.Path.{_≡_, refl, sym, ap, _∙_}
 use mathlib.Core.List.{List, [], _∷_, _++_}
 use mathlib.Core.Bool.{Bool, true, false, cond, not, _&&_, true≢false}
-use lib.ListN.{length, drop}
+use lib.ListN.{drop}
 use lib.Seq.{drop-drop}
+use borrow.Author.Tests.{not-true}
+use Rattle.facts.proofs.Truth.{each}
 use Rattle.words.specs.declared.Byte.the-variants.{Blank, NotBlank}
 use Rattle.words.specs.Words.{blank, isOf, upTo, from, fromWord, wordAt}
 
@@ -36,23 +38,15 @@ abbrev pub first : List (List ℕ) → List ℕ
 first [] = []
 first (w ∷ ws) = w
 
-both : (a b : Bool) → a && b ≡ true → (a ≡ true) × (b ≡ true)
-both true b h = (refl, h)
-both false b h = absurd (true≢false (sym h))
-
-turned : (a : Bool) → not a ≡ true → a ≡ false
-turned true h = sym h
-turned false h = refl
-
 not-blank : (b : ℕ) → not (blank b) ≡ true → blank b ≡ false
-not-blank b h = turned (blank b) h
+not-blank b h = not-true (blank b) h
 
 from-blank : (w : List ℕ) (ws : List (List ℕ)) → clean w ≡ true → from Blank (w ++ behind ws) ≡ behind ws
 unfolding from isOf
 from-blank [] [] h = refl
 from-blank [] (v ∷ ws) h = refl
 from-blank (b ∷ w) ws h =
-    let x = both (not (blank b)) (clean w) h in
+    let x = each (not (blank b)) (clean w) h in
     ap (λ (c : Bool). cond c (b ∷ (w ++ behind ws)) (from Blank (w ++ behind ws))) (not-blank b (x .0)) ∙ from-blank w ws (x .1)
 
 upto-blank : (w : List ℕ) (ws : List (List ℕ)) → clean w ≡ true → upTo Blank (w ++ behind ws) ≡ w
@@ -60,14 +54,14 @@ unfolding upTo isOf
 upto-blank [] [] h = refl
 upto-blank [] (v ∷ ws) h = refl
 upto-blank (b ∷ w) ws h =
-    let x = both (not (blank b)) (clean w) h in
+    let x = each (not (blank b)) (clean w) h in
     ap (λ (c : Bool). cond c [] (b ∷ upTo Blank (w ++ behind ws))) (not-blank b (x .0)) ∙ ap (λ (l : List ℕ). b ∷ l) (upto-blank w ws (x .1))
 
 from-word : (w r : List ℕ) → some w ≡ true → clean w ≡ true → from NotBlank (w ++ r) ≡ w ++ r
 unfolding from isOf
 from-word [] r s h = absurd (true≢false (sym s))
 from-word (b ∷ w) r s h =
-    let x = both (not (blank b)) (clean w) h in
+    let x = each (not (blank b)) (clean w) h in
     ap (λ (c : Bool). cond c (b ∷ (w ++ r)) (from NotBlank (w ++ r))) (x .0)
 
 from-line : (ws : List (List ℕ)) → Words ws → from NotBlank (line ws) ≡ line ws

@@ -4,25 +4,24 @@ use native.Mathlib.Nat.{pow-suc}
 use native.Mathlib.Omega.{arith}
 use mathlib.Core.Path.{_≡_, refl, sym, ap, _∙_}
 use mathlib.Core.List.{List, [], _∷_, _++_}
-use mathlib.Core.Bool.{Bool, true, false, cond, not, _&&_, _||_, true≢false}
+use mathlib.Core.Bool.{Bool, true, false, cond, not, _||_}
 use mathlib.Core.Logic.{inr}
-use lib.ListN.{length, drop, length-append}
-use lib.Dec.{ltb, leb, eqb}
+use lib.ListN.{length}
+use lib.Dec.{ltb, eqb}
 use lib.IntN.{ℤ, pos, negsuc}
 use lib.Signed.{mag}
 use lib.Ieee.{Float, binary64, toBits, fits, isNan}
 use lib.Ieee.Bits.{ofBits-toBits, toBits-lt}
 use lib.Dec.{T}
 use borrow.Author.Tests.{lt-ltb, le-leb, eqb-true, ltb-true, ne-eqb, eq-eqb, ltb-false}
-use Rattle.real.specs.F64.{bits, finite}
-use Rattle.text.specs.Text.{ascii, digitText, digits, decimal, signedText}
+use Rattle.facts.proofs.Truth.{each, both}
+use Rattle.text.specs.Text.{digitText, digits, decimal, signedText}
 use Rattle.figures.specs.Figures.{places, bitsOf}
 use Rattle.figures.proofs.Places.{places-length}
 use Rattle.figures.proofs.Sizes.{bits-else}
 use Rattle.words.specs.Words.{blank}
 use Rattle.numerals.specs.Numbers as Num
-use Rattle.numerals.specs.Numbers.{between, digitOf, areDigits, valueOf, readOf, wholeOf, signedOf, numberOf, patternOf, ofPattern}
-use Rattle.numerals.specs.declared.digits.Whole.{Whole}
+use Rattle.numerals.specs.Numbers.{digitOf, areDigits, valueOf, readOf, wholeOf, signedOf, numberOf, patternOf, ofPattern}
 use Rattle.numerals.specs.declared.digits.Whole.the-variants as W
 use Rattle.numerals.specs.declared.digits.Signed.the-variants as S
 use Rattle.numerals.specs.declared.reals.Number.the-variants as N
@@ -51,20 +50,13 @@ digit-back : (d : ℕ) → d < 16 → digitOf (digitText d) ≡ d
 unfolding digitText
 digit-back d h = digit-either d (ltb d 10) refl h
 
-and-both : (a b : Bool) → a ≡ true → b ≡ true → a && b ≡ true
-and-both a b h g = rw (h, g) refl
-
-both : (a b : Bool) → a && b ≡ true → (a ≡ true) × (b ≡ true)
-both true b h = (refl, h)
-both false b h = absurd (true≢false (sym h))
-
 -- one digit more
 are-more : (base : ℕ) (s : List ℕ) (b : ℕ) → areDigits base s ≡ true → digitOf b < base → areDigits base (s ++ (b ∷ [])) ≡ true
 unfolding areDigits
-are-more base [] b h g = and-both (ltb (digitOf b) base) true (lt-ltb (digitOf b) base g) refl
+are-more base [] b h g = both (ltb (digitOf b) base) true (lt-ltb (digitOf b) base g) refl
 are-more base (c ∷ s) b h g =
-    let x = both (ltb (digitOf c) base) (areDigits base s) h in
-    and-both (ltb (digitOf c) base) (areDigits base (s ++ (b ∷ []))) (x .0) (are-more base s b (x .1) g)
+    let x = each (ltb (digitOf c) base) (areDigits base s) h in
+    both (ltb (digitOf c) base) (areDigits base (s ++ (b ∷ []))) (x .0) (are-more base s b (x .1) g)
 
 value-more : (base v : ℕ) (s : List ℕ) (b : ℕ) → valueOf base v (s ++ (b ∷ [])) ≡ valueOf base v s * base + digitOf b
 unfolding valueOf
@@ -81,7 +73,7 @@ unfolding areDigits valueOf
 one-digit n h =
     let d = digit-low n h in
     let e : valueOf 10 0 ((48 + n) ∷ []) ≡ 0 * 10 + digitOf (48 + n) = refl in
-    record { all = and-both (ltb (digitOf (48 + n)) 10) true (rw d (lt-ltb n 10 h)) refl; value = omega (arith, e, d) }
+    record { all = both (ltb (digitOf (48 + n)) 10) true (rw d (lt-ltb n 10 h)) refl; value = omega (arith, e, d) }
 
 more-digits : (base n : ℕ) (s : List ℕ) (b : ℕ) → Says base (n / base) s → digitOf b ≡ n % base → n % base < base → n / base * base + n % base ≡ n → Says base n (s ++ (b ∷ []))
 more-digits base n s b h d l e =
@@ -132,19 +124,19 @@ digits-clean : (base : ℕ) (s : List ℕ) → base ≤ 16 → areDigits base s 
 unfolding areDigits
 digits-clean base [] h g = refl
 digits-clean base (b ∷ s) h g =
-    let x = both (ltb (digitOf b) base) (areDigits base s) g in
-    and-both (not (blank b)) (clean s) (ap not (blank-digit base b h (x .0))) (digits-clean base s h (x .1))
+    let x = each (ltb (digitOf b) base) (areDigits base s) g in
+    both (not (blank b)) (clean s) (ap not (blank-digit base b h (x .0))) (digits-clean base s h (x .1))
 
 first-digit : (s : List ℕ) → areDigits 10 s ≡ true → eqb (Num.first s) 45 ≡ false
 unfolding areDigits digitOf
 first-digit [] g = refl
-first-digit (b ∷ s) g = no-minus b (eqb b 45) refl (both (ltb (digitOf b) 10) (areDigits 10 s) g .0)
+first-digit (b ∷ s) g = no-minus b (eqb b 45) refl (each (ltb (digitOf b) 10) (areDigits 10 s) g .0)
 
 read-says : (base n : ℕ) (s : List ℕ) → Says base n s → n < 2 ^ 64 → readOf base 0 s ≡ W.Read n
 unfolding readOf
 read-says base n s h l =
     let v : ltb (valueOf base 0 s) (2 ^ 64) ≡ true = rw (h .value) (lt-ltb n (2 ^ 64) l) in
-    rw (and-both (areDigits base s) (ltb (valueOf base 0 s) (2 ^ 64)) (h .all) v) (ap W.Read (h .value))
+    rw (both (areDigits base s) (ltb (valueOf base 0 s) (2 ^ 64)) (h .all) v) (ap W.Read (h .value))
 
 some-append : (s : List ℕ) (b : ℕ) → some (s ++ (b ∷ [])) ≡ true
 some-append [] b = refl

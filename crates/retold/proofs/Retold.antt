@@ -1,34 +1,33 @@
 -- The line that is shown of a record says that record: to the bit, for every record that memory holds and the writer
 -- allows. Assumes nothing.
-use Prim.Native.Nat.{ℕ, _+_, _*_, _^_, _≤_, _<_}
+use Prim.Native.Nat.{ℕ, _^_, _≤_, _<_}
 use native.Mathlib.Omega.{arith}
 use mathlib.Core.Path.{_≡_, refl, sym, ap, _∙_}
 use mathlib.Core.List.{List, [], _∷_, _++_, append-nil, append-assoc}
-use mathlib.Core.Bool.{Bool, true, false, cond, not, _&&_}
+use mathlib.Core.Bool.{true, false, not, _&&_}
 use lib.ListN.{length, drop, length-append}
-use lib.Dec.{T, ltb, leb, eqb, lit≤}
+use lib.Dec.{T, leb, eqb, lit≤}
 use lib.IntN.{ℤ}
 use lib.Signed.{mag}
 use lib.Ieee.{Float, binary64, fits, isNan}
 use borrow.Author.Tests.{le-ltb, leb-true}
+use Rattle.facts.proofs.Truth.{each}
+use Rattle.writer.proofs.Laws.{allowed-finite}
+use Rattle.text.proofs.Signs.{signed-short}
+use Rattle.real.proofs.Patterns.{finite-not-nan}
 use Rattle.real.specs.F64.{finite}
 use Rattle.text.specs.Text.{ascii, decimal, signedText}
 use Rattle.text.specs.Pieces.{concat}
 use Rattle.figures.specs.Figures.{bitsOf}
 use Rattle.columns.specs.declared.Style.the-variants.{Bits}
 use Rattle.columns.specs.Rows.{figureText, rowPieces}
-use Rattle.vector.specs.declared.Vector.{Vector}
-use Rattle.words.specs.Words.{wordAt, startsWith, isWord}
+use Rattle.words.specs.Words.{wordAt, startsWith, isWord, isEnd}
 use Rattle.numerals.specs.Numbers.{numberOf, wholeOf, signedOf}
-use Rattle.numerals.specs.declared.reals.Number.{Number}
 use Rattle.numerals.specs.declared.reals.Number.the-variants as N
-use Rattle.numerals.specs.declared.digits.Whole.{Whole}
 use Rattle.numerals.specs.declared.digits.Whole.the-variants as W
-use Rattle.numerals.specs.declared.digits.Signed.{Signed}
 use Rattle.numerals.specs.declared.digits.Signed.the-variants as S
 use Rattle.figures.proofs.Lengths.{bits-short}
 use Rattle.text.proofs.Decimals.{at-most}
-use Rattle.script.proofs.Lengths.{signed-most}
 use Rattle.session.specs.declared.record.Kind.{Kind}
 use Rattle.session.specs.Kinds.{nameOf, topOf}
 use Rattle.session.specs.Limits.{timeAllowed}
@@ -38,15 +37,11 @@ use Rattle.script.specs.Script.{headPieces, bodyPieces, middle}
 use Rattle.retold.specs.Said.{lineText, offsetText, saidOf}
 use mir.Syntax.{w16}
 use mir.Val.{SFits}
-use Rattle.session.proofs.Numbers.{both}
-use Rattle.session.proofs.WriteBack.{not-nan}
 use Rattle.session.specs.declared.record.Record.{Record}
 use Rattle.session.specs.declared.record.Record.the-variants as R
-use Rattle.entry.specs.declared.line.Entry.{Entry}
-use Rattle.entry.specs.declared.line.Entry.the-variants.{Nothing, Offset, State, Burn, Mark, Unread}
-use Rattle.entry.specs.Parts.{isEnd}
+use Rattle.entry.specs.declared.line.Entry.the-variants.{Offset, State, Burn, Mark}
 use Rattle.entry.specs.Entries.{ended, offsetOf, stateOf, burnOf, markOf, entryOf, namedOf}
-use Rattle.retold.proofs.Joined.{clean, some, behind, line, Words, first, word-at}
+use Rattle.retold.proofs.Joined.{behind, line, Words, first, word-at}
 use Rattle.retold.proofs.Read.{whole-back, decimal-clean, some-decimal, signed-some, signed-clean, signed-back, bits-some, bits-clean, bits-back}
 
 -- the words of numbers as bits
@@ -73,8 +68,8 @@ numbers-from : (xs : List Float) → AllFit xs → allFinite xs ≡ true → Num
 unfolding allFinite
 numbers-from [] h g = h
 numbers-from (x ∷ xs) h g =
-    let b = both (finite x) (allFinite xs) g in
-    (h .0, not-nan x (b .0), numbers-from xs (h .1) (b .1))
+    let b = each (finite x) (allFinite xs) g in
+    (h .0, finite-not-nan x (b .0), numbers-from xs (h .1) (b .1))
 
 -- ---- a line by its name
 
@@ -142,7 +137,7 @@ unfolding startsWith
 offset-line t m =
     let ws = ascii "offset" ∷ signedText t ∷ [] in
     let h : Words ws = (refl, refl, (signed-some t, signed-clean t m, tt)) in
-    let z : length (line ws) ≤ 1000 = simp length-append (omega (arith, signed-most t)) in
+    let z : length (line ws) ≤ 1000 = simp length-append (omega (arith, signed-short t)) in
     entry-named (line ws) (ascii "offset") refl z (word-at 0 ws h) refl ∙ named-offset (line ws)
     ∙ offset-by (line ws) (signed-word 1 ws h t m refl) (no-more 2 ws h refl)
 
@@ -152,7 +147,7 @@ module _ (t : ℤ) (m : mag t < 2 ^ 63) (v : ℕ) (o : v < 2 ^ 64) where
   mark-line x y n =
       let ws = ascii "mark" ∷ signedText t ∷ decimal v ∷ patterns (x ∷ y ∷ []) in
       let h : Words ws = (refl, refl, (signed-some t, signed-clean t m, (some-decimal v, decimal-clean v o, patterns-words (x ∷ y ∷ []) n))) in
-      let z : length (line ws) ≤ 1000 = simp length-append (omega (arith, signed-most t, at-most 20 v, bits-short x, bits-short y)) in
+      let z : length (line ws) ≤ 1000 = simp length-append (omega (arith, signed-short t, at-most 20 v, bits-short x, bits-short y)) in
       entry-named (line ws) (ascii "mark") refl z (word-at 0 ws h) refl ∙ named-mark (line ws)
       ∙ mark-by (line ws) (signed-word 1 ws h t m refl) (whole-word 2 ws h v o refl)
       (number-word 3 ws h x (n .0) (n .1) refl) (number-word 4 ws h y (n .2 .0) (n .2 .1) refl) (no-more 5 ws h refl)
@@ -162,7 +157,7 @@ module _ (t : ℤ) (m : mag t < 2 ^ 63) (v : ℕ) (o : v < 2 ^ 64) where
   burn-line x y z n =
       let ws = ascii "burn" ∷ signedText t ∷ decimal v ∷ patterns (x ∷ y ∷ z ∷ []) in
       let h : Words ws = (refl, refl, (signed-some t, signed-clean t m, (some-decimal v, decimal-clean v o, patterns-words (x ∷ y ∷ z ∷ []) n))) in
-      let s : length (line ws) ≤ 1000 = simp length-append (omega (arith, signed-most t, at-most 20 v, bits-short x, bits-short y, bits-short z)) in
+      let s : length (line ws) ≤ 1000 = simp length-append (omega (arith, signed-short t, at-most 20 v, bits-short x, bits-short y, bits-short z)) in
       entry-named (line ws) (ascii "burn") refl s (word-at 0 ws h) refl ∙ named-burn (line ws)
       ∙ burn-by (line ws) (signed-word 1 ws h t m refl) (whole-word 2 ws h v o refl)
       (number-word 3 ws h x (n .0) (n .1) refl) (number-word 4 ws h y (n .2 .0) (n .2 .1) refl) (number-word 5 ws h z (n .2 .2 .0) (n .2 .2 .1) refl) (no-more 6 ws h refl)
@@ -175,7 +170,7 @@ module _ (t : ℤ) (m : mag t < 2 ^ 63) (v : ℕ) (o : v < 2 ^ 64) where
       let xs = x ∷ y ∷ z ∷ p ∷ q ∷ r ∷ [] in
       let ws = ascii "state" ∷ signedText t ∷ decimal v ∷ decimal b ∷ patterns xs in
       let h : Words ws = (refl, refl, (signed-some t, signed-clean t m, (some-decimal v, decimal-clean v o, (some-decimal b, decimal-clean b i, patterns-words xs n)))) in
-      let s : length (line ws) ≤ 1000 = simp length-append (omega (arith, signed-most t, at-most 20 v, at-most 20 b, bits-short x, bits-short y, bits-short z, bits-short p, bits-short q, bits-short r)) in
+      let s : length (line ws) ≤ 1000 = simp length-append (omega (arith, signed-short t, at-most 20 v, at-most 20 b, bits-short x, bits-short y, bits-short z, bits-short p, bits-short q, bits-short r)) in
       entry-named (line ws) (ascii "state") refl s (word-at 0 ws h) refl ∙ named-state (line ws)
       ∙ state-by (line ws) (signed-word 1 ws h t m refl) (whole-word 2 ws h v o refl) (whole-word 3 ws h b i refl)
       (number-word 4 ws h x (n .0) (n .1) refl) (number-word 5 ws h y (n .2 .0) (n .2 .1) refl) (number-word 6 ws h z (n .2 .2 .0) (n .2 .2 .1) refl)
@@ -195,20 +190,17 @@ body-line b r = simp (append-assoc, append-nil)
 -- what is allowed is small
 vehicle-small : (r : Record) → allowedIn r ≡ true → vehicleIn r < 2 ^ 64
 vehicle-small r h =
-    let a = both (leb (vehicleIn r) 1 && leb (byteIn r) (topOf (kindIn r)) && timeAllowed (timeIn r)) (allFinite (numbersIn r)) h .0 in
-    let b = both (leb (vehicleIn r) 1 && leb (byteIn r) (topOf (kindIn r))) (timeAllowed (timeIn r)) a .0 in
-    let c = leb-true (vehicleIn r) 1 (both (leb (vehicleIn r) 1) (leb (byteIn r) (topOf (kindIn r))) b .0) in
+    let a = each (leb (vehicleIn r) 1 && leb (byteIn r) (topOf (kindIn r)) && timeAllowed (timeIn r)) (allFinite (numbersIn r)) h .0 in
+    let b = each (leb (vehicleIn r) 1 && leb (byteIn r) (topOf (kindIn r))) (timeAllowed (timeIn r)) a .0 in
+    let c = leb-true (vehicleIn r) 1 (each (leb (vehicleIn r) 1) (leb (byteIn r) (topOf (kindIn r))) b .0) in
     omega (arith, c)
 
 byte-small : (r : Record) → topOf (kindIn r) ≤ 1 → allowedIn r ≡ true → byteIn r < 2 ^ 64
 byte-small r t h =
-    let a = both (leb (vehicleIn r) 1 && leb (byteIn r) (topOf (kindIn r)) && timeAllowed (timeIn r)) (allFinite (numbersIn r)) h .0 in
-    let b = both (leb (vehicleIn r) 1 && leb (byteIn r) (topOf (kindIn r))) (timeAllowed (timeIn r)) a .0 in
-    let c = leb-true (byteIn r) (topOf (kindIn r)) (both (leb (vehicleIn r) 1) (leb (byteIn r) (topOf (kindIn r))) b .1) in
+    let a = each (leb (vehicleIn r) 1 && leb (byteIn r) (topOf (kindIn r)) && timeAllowed (timeIn r)) (allFinite (numbersIn r)) h .0 in
+    let b = each (leb (vehicleIn r) 1 && leb (byteIn r) (topOf (kindIn r))) (timeAllowed (timeIn r)) a .0 in
+    let c = leb-true (byteIn r) (topOf (kindIn r)) (each (leb (vehicleIn r) 1) (leb (byteIn r) (topOf (kindIn r))) b .1) in
     omega (arith, c, t)
-
-all-finite : (r : Record) → allowedIn r ≡ true → allFinite (numbersIn r) ≡ true
-all-finite r h = both (leb (vehicleIn r) 1 && leb (byteIn r) (topOf (kindIn r)) && timeAllowed (timeIn r)) (allFinite (numbersIn r)) h .1
 
 -- a record's line says the record
 pub retold : (r : Record) → Held r → allowedIn r ≡ true → entryOf (lineText r) ≡ saidOf r
@@ -216,7 +208,7 @@ unfolding concat
 retold (R.State r) h a =
     let s = r .state in
     let xs = numbersIn (R.State r) in
-    let n = numbers-from xs (h .numbers) (all-finite (R.State r) a) in
+    let n = numbers-from xs (h .numbers) (allowed-finite (R.State r) a) in
     let e = head-line (kindIn (R.State r)) (r .time) (r .vehicle) (concat (middle (R.State r)) ++ concat (rowPieces Bits xs))
     ∙ ap (λ (l : List ℕ). ascii "state" ++ (32 ∷ (signedText (r .time) ++ (32 ∷ (decimal (r .vehicle) ++ l))))) (body-line (r .body) (concat (rowPieces Bits xs)) ∙ ap (λ (l : List ℕ). 32 ∷ (decimal (r .body) ++ l)) (row-behind xs)) in
     ap entryOf e
@@ -224,13 +216,13 @@ retold (R.State r) h a =
 retold (R.Burn r) h a =
     let d = r .change in
     let xs = numbersIn (R.Burn r) in
-    let n = numbers-from xs (h .numbers) (all-finite (R.Burn r) a) in
+    let n = numbers-from xs (h .numbers) (allowed-finite (R.Burn r) a) in
     let e = head-line (kindIn (R.Burn r)) (r .time) (r .vehicle) (concat (rowPieces Bits xs))
     ∙ ap (λ (l : List ℕ). ascii "burn" ++ (32 ∷ (signedText (r .time) ++ (32 ∷ (decimal (r .vehicle) ++ l))))) (row-behind xs) in
     ap entryOf e ∙ burn-line (r .time) (h .time .sfits) (r .vehicle) (vehicle-small (R.Burn r) a) (d .x) (d .y) (d .z) n
 retold (R.Mark r) h a =
     let xs = numbersIn (R.Mark r) in
-    let n = numbers-from xs (h .numbers) (all-finite (R.Mark r) a) in
+    let n = numbers-from xs (h .numbers) (allowed-finite (R.Mark r) a) in
     let e = head-line (kindIn (R.Mark r)) (r .time) (r .vehicle) (concat (rowPieces Bits xs))
     ∙ ap (λ (l : List ℕ). ascii "mark" ++ (32 ∷ (signedText (r .time) ++ (32 ∷ (decimal (r .vehicle) ++ l))))) (row-behind xs) in
     ap entryOf e ∙ mark-line (r .time) (h .time .sfits) (r .vehicle) (vehicle-small (R.Mark r) a) (r .range) (r .rate) n

@@ -1,12 +1,12 @@
 -- The lines that are shown of a whole session, entered, make its bytes. Assumes nothing.
-use Prim.Native.Nat.{ℕ, _+_, _≤_, zero-le}
+use Prim.Native.Nat.{ℕ, _+_, _≤_}
 use native.Mathlib.Omega.{arith}
 use mathlib.Core.Path.{_≡_, refl, sym, ap, _∙_}
 use mathlib.Core.List.{List, [], _∷_, _++_}
 use mathlib.Core.Bool.{Bool, true, false, cond, not}
 use lib.ListN.{length, take, drop, length-drop}
 use lib.Seq.{length-take-le, take-add, take-all}
-use lib.Dec.{ltb, leb, eqb}
+use lib.Dec.{ltb, eqb}
 use borrow.Author.Tests.{le-leb, eqb-true, eq-eqb}
 use Rattle.session.specs.declared.record.Record.{Record}
 use Rattle.session.specs.declared.record.Record.the-variants as R

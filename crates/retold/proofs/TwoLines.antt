@@ -1,18 +1,14 @@
 -- A record is shown as its comment, which is not read back, and its line, which is. Assumes nothing.
 use Prim.Native.Nat.{ℕ}
-use mathlib.Core.Path.{_≡_, refl, sym, ap, _∙_}
+use mathlib.Core.Path.{_≡_, refl}
 use mathlib.Core.List.{List, [], _∷_, _++_, append-assoc, append-nil}
 use lib.IntN.{ℤ}
-use Rattle.text.specs.Text.{ascii, signedText, decimal}
+use Rattle.text.specs.Text.{ascii, signedText}
 use Rattle.text.specs.Pieces.{concat}
 use Rattle.text.proofs.Lays.{concat-append}
-use Rattle.columns.specs.declared.Style.the-variants.{Places, Bits}
-use Rattle.columns.specs.Rows.{rowPieces}
 use Rattle.words.specs.Words.{startsWith}
 use Rattle.session.specs.declared.record.Record.{Record}
-use Rattle.session.specs.Layout.{kindIn, vehicleIn, timeIn, numbersIn}
-use Rattle.lines.specs.Days.{localOf}
-use Rattle.script.specs.Script.{stampPieces, whoPieces, headPieces, frontPieces, backPieces, middle, recordPieces, offsetPieces}
+use Rattle.script.specs.Script.{frontPieces, backPieces, recordPieces, offsetPieces}
 use Rattle.entry.specs.declared.line.Entry.the-variants.{Nothing}
 use Rattle.entry.specs.Entries.{entryOf}
 use Rattle.retold.specs.Said.{commentText, lineText, offsetText}

@@ -13,17 +13,11 @@ use lib.Ieee.Fits.{down-pos}
 use lib.Ieee.Exact.{HasValue, units-val}
 use Rattle.root.specs.Root.{wholeRoot, inUnits, rootUnits, rootOf}
 use Rattle.root.proofs.Digits.{root-le, square-next}
-use Rattle.root.proofs.Roots.{IsWholeRoot, whole-root-is, four-pow}
+use Rattle.root.proofs.Roots.{IsWholeRoot, whole-root-is, four-square, four-pow}
 use Rattle.real.proofs.Powers.{Up, Over}
 
 square-le : (a b : ℕ) → a * a ≤ b * b → a ≤ b
 square-le a b h = root-le a b (b * b) h (omega (arith, square-next b))
-
-four-square : (k : ℕ) → 4 ^ k ≡ 2 ^ k * 2 ^ k
-four-square k = four-pow k ∙ ap (λ (x : ℕ). 2 ^ x) (double k) ∙ pow-add 2 k k
-  where
-    double : (k : ℕ) → k * 2 ≡ k + k
-    double k = omega arith
 
 -- ---- the digits that an f64 drops of a root
 

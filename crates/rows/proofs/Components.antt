@@ -3,9 +3,9 @@ use Prim.Native.Nat.{ℕ}
 use mathlib.Core.Path.{_≡_, refl}
 use mathlib.Core.Bool.{Bool, true, _&&_}
 use lib.Ieee.{ofBits}
+use Rattle.facts.proofs.Truth.{and-0, and-1}
 use Rattle.real.specs.F64.{_≤ᶠ_, _<ᶠ_, finite, two^, sizeOf}
 use Rattle.real.proofs.Finite.{size-under, size-at-most}
-use Rattle.real.proofs.Tests.{and-0, and-1}
 use Rattle.table.specs.declared.Name.{Name}
 use Rattle.table.specs.Tests.{allMeet}
 use Rattle.vector.specs.declared.Vector.{Vector}

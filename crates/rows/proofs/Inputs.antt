@@ -1,6 +1,6 @@
 -- Row 1 is met exactly where every number of its inputs is finite. Assumes nothing.
 use mathlib.Core.Path.{_≡_, refl, sym, ap, _∙_}
-use mathlib.Core.Bool.{Bool, true, false, _&&_}
+use mathlib.Core.Bool.{Bool, true, false, _&&_, and-true}
 use lib.Ieee.{Float}
 use Rattle.real.specs.F64.{finite}
 use Rattle.vector.specs.declared.Vector.{Vector}
@@ -30,10 +30,6 @@ one-more e true = ap (λ (x : Bool). x && true) e
 one-more e false = ap (λ (x : Bool). x && false) e
 
 -- and of two
-and-true : (b : Bool) → (b && true) ≡ b
-and-true true = refl
-and-true false = refl
-
 and-false : (b d : Bool) → (b && false) ≡ (b && false && d)
 and-false true d = refl
 and-false false d = refl

@@ -1,39 +1,30 @@
 -- The lines of every record fit 512 bytes. Assumes nothing.
 use Prim.Native.Nat.{ℕ, _+_, _*_, _≤_}
 use native.Mathlib.Omega.{arith}
-use mathlib.Core.List.{List, [], _∷_, _++_}
+use mathlib.Core.List.{List}
 use lib.ListN.{length, length-append}
 use lib.Dec.{lit≤}
-use lib.IntN.{ℤ, pos, negsuc}
+use lib.IntN.{ℤ}
 use lib.Ieee.{Float}
-use Rattle.text.specs.Text.{ascii, decimal, signedText}
+use Rattle.session.proofs.Numbers.{numbers-few}
 use Rattle.text.specs.Pieces.{concat}
 use Rattle.text.proofs.Decimals.{at-most}
-use Rattle.text.proofs.Lays.{concat-append}
-use Rattle.columns.specs.Rows.{rowPieces, endPieces}
-use Rattle.columns.specs.declared.Style.the-variants.{Places, Bits}
+use Rattle.text.proofs.Signs.{signed-short}
+use Rattle.text.proofs.Lays.{size, concat-append}
 use Rattle.columns.proofs.RowLaws.{row-short, end-short}
 use Rattle.session.specs.declared.record.Kind.{Kind}
 use Rattle.session.specs.declared.record.Record.{Record}
 use Rattle.session.specs.declared.record.Record.the-variants as R
 use Rattle.session.specs.declared.Reading.{Reading}
 use Rattle.session.specs.declared.Reading.the-variants as A
-use Rattle.session.specs.Kinds.{nameOf}
 use Rattle.session.specs.Layout.{kindIn, vehicleIn, timeIn, numbersIn}
 use Rattle.lines.specs.Days.{localOf, dayOf, csOf}
 use Rattle.lines.proofs.Sizes.{name-short}
 use Rattle.script.specs.Script.{room, stampPieces, whoPieces, headPieces, bodyPieces, frontPieces, backPieces, middle, recordPieces, offsetPieces, refusedPieces, piecesOf}
 
-abbrev size : List (List ℕ) → ℕ
-size xs = length (concat xs)
-
-pub signed-most : (z : ℤ) → length (signedText z) ≤ 21
-signed-most (pos n) = omega (arith, at-most 20 n)
-signed-most (negsuc n) = omega (arith, at-most 20 (n + 1))
-
 stamp-most : (t : ℤ) → size (stampPieces t) ≤ 53
 unfolding concat stampPieces
-stamp-most t = simp length-append (omega (arith, signed-most (dayOf t), at-most 20 (csOf t)))
+stamp-most t = simp length-append (omega (arith, signed-short (dayOf t), at-most 20 (csOf t)))
 
 who-most : (k : Kind) (v : ℕ) → size (whoPieces k v) ≤ 37
 unfolding concat whoPieces
@@ -41,7 +32,7 @@ who-most k v = simp length-append (omega (arith, name-short k, at-most 20 v))
 
 head-most : (k : Kind) (t : ℤ) (v : ℕ) → size (headPieces k t v) ≤ 48
 unfolding concat headPieces
-head-most k t v = simp length-append (omega (arith, name-short k, signed-most t, at-most 20 v))
+head-most k t v = simp length-append (omega (arith, name-short k, signed-short t, at-most 20 v))
 
 body-most : (b : ℕ) → size (bodyPieces b) ≤ 21
 unfolding concat bodyPieces
@@ -62,20 +53,15 @@ back-most : (xs : List Float) → size (backPieces xs) ≤ 18 * length xs + 1
 unfolding concat backPieces
 back-most xs = omega (arith, end-short xs)
 
-six : (r : Record) → length (numbersIn r) ≤ 6
-six (R.State r) = lit≤ tt
-six (R.Burn r) = lit≤ tt
-six (R.Mark r) = lit≤ tt
-
 record-most : (o : ℤ) (r : Record) → size (recordPieces o r) ≤ room
 record-most o r =
     let xs = numbersIn r in
     simp (concat-append, length-append)
-    (omega (arith, front-most (timeIn r) o (kindIn r) (vehicleIn r) xs, middle-most r, back-most xs, six r))
+    (omega (arith, front-most (timeIn r) o (kindIn r) (vehicleIn r) xs, middle-most r, back-most xs, numbers-few r))
 
 pub all-fit-room : (r : Reading) → size (piecesOf r) ≤ room
 unfolding concat offsetPieces refusedPieces
 all-fit-room (A.Record r p) = record-most (p .offset) r
-all-fit-room (A.Offset p) = simp length-append (omega (arith, signed-most (p .offset)))
+all-fit-room (A.Offset p) = simp length-append (omega (arith, signed-short (p .offset)))
 all-fit-room A.End = lit≤ tt
 all-fit-room (A.Refused n p) = simp length-append (omega (arith, at-most 20 n, at-most 20 (p .at)))

@@ -7,6 +7,7 @@ use mathlib.Core.Bool.{Bool, true, false, cond, not, _&&_}
 use lib.ListN.{length}
 use lib.Dec.{ltb, leb, eqb}
 use borrow.Author.Tests.{ltb-false, leb-true, eqb-true}
+use Rattle.facts.proofs.Truth.{each}
 use Rattle.session.specs.declared.record.Kind.{Kind}
 use Rattle.session.specs.declared.record.Kind.the-variants.{State, Burn, Mark}
 use Rattle.session.specs.declared.record.Found.{Found}
@@ -20,7 +21,6 @@ use Rattle.session.specs.Layout.{vehicleAt, byteAt, timeAt, numbersFrom,
 use Rattle.session.specs.Limits.{timeAllowed}
 use Rattle.session.specs.Kinds.{kindOf, lengthOf, countOf, topOf}
 use Rattle.session.specs.Decode.{allowedAt, judged, headOf, decoded, decodeOf}
-use Rattle.session.proofs.Numbers.{both}
 use Rattle.session.proofs.Table.{long}
 
 never : {X : Type 0} (n : ℕ) (k : Kind) → Bad n ≡ Good k → X
@@ -52,9 +52,9 @@ judged-good : (f : Found) (s : List ℕ) (k : Kind) → judged f s ≡ Good k �
 judged-good Unknown s k p = never 13 k p
 judged-good (Known j) s k p =
     let t = tests (eqb (field 0 2 s) (lengthOf j)) (ltb (length s) (lengthOf j)) (allowedAt j s) j k p in
-    let b = both (leb (vehicleAt s) 1 && leb (byteAt s) (topOf j) && timeAllowed (timeAt s)) (allFinite (numbersFrom 0 (countOf j) s)) (t .2) in
-    let m = both (leb (vehicleAt s) 1 && leb (byteAt s) (topOf j)) (timeAllowed (timeAt s)) (b .0) in
-    let d = both (leb (vehicleAt s) 1) (leb (byteAt s) (topOf j)) (m .0) in
+    let b = each (leb (vehicleAt s) 1 && leb (byteAt s) (topOf j) && timeAllowed (timeAt s)) (allFinite (numbersFrom 0 (countOf j) s)) (t .2) in
+    let m = each (leb (vehicleAt s) 1 && leb (byteAt s) (topOf j)) (timeAllowed (timeAt s)) (b .0) in
+    let d = each (leb (vehicleAt s) 1) (leb (byteAt s) (topOf j)) (m .0) in
     rw (← t .3) (
       refl,
       record {

@@ -8,20 +8,19 @@ use mathlib.Core.Bool.{Bool, true, false, cond, not, _&&_}
 use lib.ListN.{length}
 use lib.Dec.{ltb, leb, eqb, lit<}
 use lib.IntN.{ℤ}
-use borrow.Author.Tests.{ltb-false, leb-true, eqb-true, ne-eqb}
+use borrow.Author.Tests.{ltb-false, eqb-true, ne-eqb}
+use Rattle.facts.proofs.Truth.{each, and-fails}
 use Rattle.session.specs.declared.record.Kind.{Kind}
 use Rattle.session.specs.declared.record.Kind.the-variants.{State, Burn, Mark}
 use Rattle.session.specs.declared.record.Head.{Head}
 use Rattle.session.specs.declared.record.Head.the-variants.{Good, Bad}
 use Rattle.session.specs.declared.record.Record.{Record}
-use Rattle.session.specs.declared.record.Decoded.{Decoded}
 use Rattle.session.specs.declared.record.Decoded.the-variants.{Whole, Offset, Refused}
 use Rattle.field.specs.Bytes.{field}
 use Rattle.session.specs.Limits.{offsetAllowed}
 use Rattle.session.specs.Kinds.{numberOf}
 use Rattle.session.specs.Decode.{headOf, decoded, decodeOf}
 use Rattle.session.specs.Offset.{isOffset, minutesAt, goodOffset, offsetOf, decodeAt}
-use Rattle.session.proofs.Numbers.{both}
 use Rattle.session.proofs.Table.{kind-number}
 use Rattle.session.proofs.Heads.{good-kind}
 
@@ -31,14 +30,10 @@ small State = lit< tt
 small Burn = lit< tt
 small Mark = lit< tt
 
-and-false : (a b : Bool) → b ≡ false → a && b ≡ false
-and-false true b e = e
-and-false false b e = refl
-
 not-offset : (h : Head) (s : List ℕ) (r : Record) (n : ℕ) → h ≡ headOf s → decoded h s ≡ Whole r n → isOffset s ≡ false
 not-offset (Good k) s r n e p =
     let f = kind-number (field 2 2 s) k (good-kind s k (sym e)) in
-    and-false (leb 4 (length s)) (eqb (field 2 2 s) 4)
+    and-fails (leb 4 (length s)) (eqb (field 2 2 s) 4)
     (ne-eqb (field 2 2 s) 4 (λ (q : field 2 2 s ≡ 4). let w : ⊥ = omega (arith, small k, f, q) in w))
 not-offset (Bad x) s r n e p = let z : _≡_ {A = ℕ} 0 1 = cc in let w : ⊥ = omega arith in absurd w
 
@@ -85,10 +80,10 @@ no-table (Bad n) s z p = let z : _≡_ {A = ℕ} 0 1 = cc in let w : ⊥ = omega
 
 set-by : (b : Bool) (first : Bool) (s : List ℕ) (z : ℤ) → isOffset s ≡ b → cond b (offsetOf first s) (decodeOf s) ≡ Offset z → Sets first s z
 set-by true first s z e p =
-    let k = both (leb 4 (length s)) (eqb (field 2 2 s) 4) e in
+    let k = each (leb 4 (length s)) (eqb (field 2 2 s) 4) e in
     let t = tests (eqb (field 0 2 s) 8) (ltb (length s) 8) (goodOffset first s) (minutesAt s) z p in
-    let g = both (first && eqb (field 6 2 s) 0) (offsetAllowed (minutesAt s)) (t .2) in
-    let f = both first (eqb (field 6 2 s) 0) (g .0) in
+    let g = each (first && eqb (field 6 2 s) 0) (offsetAllowed (minutesAt s)) (t .2) in
+    let f = each first (eqb (field 6 2 s) 0) (g .0) in
     record {
       length-field = eqb-true (field 0 2 s) 8 (t .0);
       kind-field = eqb-true (field 2 2 s) 4 (k .1);

@@ -3,14 +3,15 @@ use Prim.Native.Nat.{ℕ, zero, suc, _+_, _*_, _^_, _≤_, _<_}
 use native.Mathlib.Omega.{arith}
 use mathlib.Core.Path.{_≡_, refl, sym, ap, _∙_}
 use mathlib.Core.List.{List, _∷_, _++_}
-use mathlib.Core.Bool.{true, not, true≢false}
+use mathlib.Core.Bool.{true}
 use lib.ListN.{length, take, drop, length-drop}
 use lib.Seq.{take-add, drop-drop, drop-cons, length-take-le}
-use lib.Dec.{T}
-use lib.Ieee.{Float, nan, inf, fin, binary64, isNan}
+use lib.Ieee.{binary64}
 use lib.Ieee.Bits.{toBits-ofBits}
 use mir.Syntax.{w64}
 use mir.Facts.{ofZ-toZ}
+use Rattle.facts.proofs.Truth.{each}
+use Rattle.real.proofs.Patterns.{finite-not-nan}
 use Rattle.real.specs.F64.{finite}
 use Rattle.session.specs.declared.record.Kind.{Kind}
 use Rattle.session.specs.declared.record.Kind.the-variants.{State, Burn, Mark}
@@ -22,16 +23,9 @@ use Rattle.field.specs.Bytes.{le, field, bytesLe, bitsOf}
 use Rattle.session.specs.Kinds.{numberOf, lengthOf, countOf, topOf}
 use Rattle.session.specs.Layout.{vehicleAt, byteAt, timeAt, wordAt, numberAt, numbersFrom, allFinite, recordAt, headerBytes, numberBytes, bytesOf}
 use Rattle.session.specs.Decode.{headOf, decoded, decodeOf}
-use Rattle.session.proofs.Numbers.{both}
 use Rattle.session.proofs.Table.{length-law, kind-number}
 use Rattle.session.proofs.Heads.{good-head, good-kind}
 use Rattle.field.proofs.Bytes.{Bytes, bytes-le, bytes-take, bytes-drop, le-below}
-
-pub not-nan : (x : Float) → finite x ≡ true → T (not (isNan x))
-unfolding isNan
-not-nan nan h = absurd (true≢false (sym h))
-not-nan (inf s) h = tt
-not-nan (fin s m e) h = tt
 
 module _ (s : List ℕ) (bytes : Bytes s) where
   part-length : (o w : ℕ) → o + w ≤ length s → length (take w (drop o s)) ≡ w
@@ -52,11 +46,11 @@ module _ (s : List ℕ) (bytes : Bytes s) where
   unfolding numbersFrom allFinite numberBytes
   numbers-bytes j zero h f = refl
   numbers-bytes j (suc n) h f =
-      let b = both (finite (numberAt s j)) (allFinite (numbersFrom (j + 1) n s)) f in
+      let b = each (finite (numberAt s j)) (allFinite (numbersFrom (j + 1) n s)) f in
       let l = drop (14 + 8 * j) s in
       let e : 8 * suc n ≡ 8 + 8 * n = omega arith in
       let p : 14 + 8 * j + 8 ≡ 14 + 8 * (j + 1) = omega arith in
-      ap (λ (k : ℕ). bytesLe 8 k ++ numberBytes (numbersFrom (j + 1) n s)) (toBits-ofBits binary64 (wordAt s j) (field-below (14 + 8 * j) 8 (omega arith)) (not-nan (numberAt s j) (b .0)))
+      ap (λ (k : ℕ). bytesLe 8 k ++ numberBytes (numbersFrom (j + 1) n s)) (toBits-ofBits binary64 (wordAt s j) (field-below (14 + 8 * j) 8 (omega arith)) (finite-not-nan (numberAt s j) (b .0)))
       ∙ ap (λ (z : List ℕ). z ++ numberBytes (numbersFrom (j + 1) n s)) (field-bytes (14 + 8 * j) 8 (omega arith))
       ∙ ap (λ (z : List ℕ). take 8 l ++ z) (numbers-bytes (j + 1) n (omega arith) (b .1))
       ∙ ap (λ (z : List ℕ). take 8 l ++ take (8 * n) z) (ap (λ (k : ℕ). drop k s) (sym p) ∙ sym (drop-drop 8 (14 + 8 * j) s))

@@ -6,7 +6,7 @@ use mathlib.Core.Bool.{Bool, true, false, cond, not, true≢false}
 use mathlib.Core.List.{List, [], _∷_}
 use lib.Dec.{ltb, eqb}
 use borrow.Author.Tests.{eq-eqb, ltb-false}
-use Rattle.real.proofs.Tests.{and-0, and-1}
+use Rattle.facts.proofs.Truth.{and-0, and-1}
 use Rattle.table.specs.declared.Entry.{Entry}
 use Rattle.table.specs.declared.Test.{Test}
 use Rattle.table.specs.declared.Test.the-variants.{Passed, Failed}

@@ -1,17 +1,17 @@
 -- A version in its bytes reads as it was put, whatever stands behind it; and more bytes behind one change nothing. Assumes
 -- nothing.
-use Prim.Native.Nat.{ℕ, _+_, _≤_, _<_, _^_}
+use Prim.Native.Nat.{ℕ, _≤_, _<_, _^_}
 use native.Mathlib.Omega.{arith}
-use mathlib.Core.Path.{_≡_, refl, sym, ap, _∙_}
-use mathlib.Core.Bool.{Bool, true, _&&_}
+use mathlib.Core.Path.{_≡_, refl, ap, _∙_}
+use mathlib.Core.Bool.{true, _&&_}
 use mathlib.Core.List.{List, _++_}
 use lib.ListN.{length}
-use lib.Dec.{T, eqb, lit<}
+use lib.Dec.{T, eqb}
 use lib.Ieee.{Float, binary64, fits, toBits, ofBits}
 use lib.Ieee.Bits.{ofBits-toBits, ofBits-fits, toBits-lt}
 use borrow.Author.Tests.{eq-eqb}
+use Rattle.facts.proofs.Truth.{both}
 use Rattle.real.specs.F64.{bits}
-use Rattle.real.proofs.Tests.{both}
 use Rattle.field.specs.Bytes.{le, field, bytesLe}
 use Rattle.field.proofs.Bytes.{le-bytes}
 use Rattle.text.specs.Pieces.{concat}

@@ -7,12 +7,11 @@ use mathlib.Core.List.{List, _++_}
 use lib.ListN.{length, take, drop}
 use lib.Seq.{length-take-le}
 use lib.Dec.{T, ltb, leb, eqb, eqb→eq}
-use borrow.Author.Tests.{le-leb, leb-true, leb-false, ltb-false}
-use Rattle.real.proofs.Tests.{and-0, and-1, both}
+use borrow.Author.Tests.{leb-true, leb-false, ltb-false}
+use Rattle.facts.proofs.Truth.{and-0, and-1}
 use Rattle.text.specs.Text.{Stands}
-use Rattle.text.proofs.Stand.{before-place, same-size}
+use Rattle.text.proofs.Stand.{before-place}
 use Rattle.settings.specs.declared.allowed.Setting.{Setting}
-use Rattle.settings.specs.declared.Looked.{Looked}
 use Rattle.settings.specs.declared.Looked.the-variants as L
 use Rattle.settings.specs.declared.Stored.{Stored}
 use Rattle.settings.specs.declared.Stored.the-variants.{Version, Refused}

@@ -9,13 +9,11 @@ use lib.Dec.{ltb, leb, eqb}
 use borrow.Author.Tests.{le-ltb}
 use Rattle.field.specs.Bytes.{field, bytesLe}
 use Rattle.text.specs.Pieces.{concat}
-use Rattle.session.specs.declared.record.Found.{Found}
-use Rattle.session.specs.declared.record.Head.{Head}
 use Rattle.session.specs.declared.record.Head.the-variants.{Bad}
 use Rattle.session.specs.declared.record.Decoded.{Decoded}
 use Rattle.session.specs.declared.record.Decoded.the-variants.{Refused}
 use Rattle.session.specs.Kinds.{kindOf}
-use Rattle.session.specs.Decode.{judged, headOf, decoded, decodeOf}
+use Rattle.session.specs.Decode.{judged, decoded, decodeOf}
 use Rattle.session.specs.Offset.{offsetOf, decodeAt}
 use Rattle.settings.specs.declared.allowed.Setting.{Setting}
 use Rattle.settings.specs.Layout.{versionBytes}

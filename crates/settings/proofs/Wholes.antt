@@ -1,20 +1,19 @@
 -- A used part, and one version more behind it: it is a used part again, the new version is found as it was put, and every
 -- earlier one as before. Assumes nothing.
-use Prim.Native.Nat.{ℕ, zero, suc, _+_, _-_, _*_, _/_, _%_, _^_, _≤_, _<_}
+use Prim.Native.Nat.{ℕ, zero, suc, _+_, _-_, _*_, _%_, _≤_, _<_}
 use native.Mathlib.Nat.{add-zero}
 use native.Mathlib.Omega.{arith}
 use mathlib.Core.Path.{_≡_, refl, sym, ap, _∙_, subst}
-use mathlib.Core.Bool.{Bool, true, false, cond, not, _&&_}
+use mathlib.Core.Bool.{Bool, true, _&&_}
 use mathlib.Core.List.{List, [], _++_, append-nil}
 use lib.ListN.{length, drop, length-append, length-drop}
 use lib.Seq.{drop-drop, drop-append-le, drop-at}
 use lib.Dec.{T, leb, eqb, eqb→eq}
 use borrow.Author.Tests.{eq-eqb, le-leb, leb-true}
-use Rattle.real.proofs.Tests.{and-0, and-1, both}
+use Rattle.facts.proofs.Truth.{and-0, and-1, both}
 use Rattle.field.specs.Bytes.{field}
 use Rattle.settings.specs.declared.allowed.Setting.{Setting}
-use Rattle.settings.specs.declared.Looked.{Looked}
-use Rattle.settings.specs.declared.Looked.the-variants.{Found, Refused}
+use Rattle.settings.specs.declared.Looked.the-variants.{Found}
 use Rattle.settings.specs.Allowed.{refusalOf}
 use Rattle.settings.specs.Layout.{settingAt, isVersion, versionsFrom, countOf, wholeOf, versionBytes, Held}
 use Rattle.settings.specs.History.{versionIn, lookUp}

@@ -1,6 +1,6 @@
 -- Versions looked up, stored, and gone back to. A buffer d has a used part, its first `used` bytes. Assumes nothing: these
 -- are definitions.
-use Prim.Native.Nat.{ℕ, suc, _+_, _-_, _*_}
+use Prim.Native.Nat.{ℕ, _+_, _-_, _*_}
 use mathlib.Core.Bool.{Bool, cond, not, _&&_}
 use mathlib.Core.List.{List, _++_}
 use lib.ListN.{length, take, drop}

@@ -1,7 +1,7 @@
 -- Every number of an answer is finite, so that no answer holds a NaN, and the larger k stands first. Assumes nothing.
 use Prim.Native.Nat.{ℕ, zero, suc, _+_, _*_, _^_, _≤_, _<_}
 use mathlib.Core.Path.{_≡_, refl, sym, _∙_}
-use mathlib.Core.Bool.{Bool, true, false, not, _&&_, _||_, false≢true}
+use mathlib.Core.Bool.{true, false, not, _&&_, _||_, false≢true, and-true}
 use native.Mathlib.Nat.{mul-pos}
 use native.Mathlib.Omega.{arith}
 use lib.IntN.{pos}
@@ -10,9 +10,9 @@ use lib.Ieee as Ieee
 use lib.Ieee.{Float, nan, inf, fin, binary64, up, down, round, fits, ofBits}
 use lib.Ieee.Back.{round-whole}
 use lib.Ieee.Fits.{up-pos, sub-fits}
-use borrow.Author.Tests.{ltb-false, lt-ltb, le-ltb}
+use borrow.Author.Tests.{ltb-false, lt-ltb, le-ltb, not-true}
 use Rattle.real.specs.F64.{_⊕_, _⊖_, _⊗_, _≤ᶠ_, _<ᶠ_, f0, finite}
-use Rattle.real.proofs.Bounds.{Within, within-finite, wider}
+use Rattle.real.proofs.Bounds.{Within, within-finite, wider, neg-within}
 use Rattle.root.specs.Root.{rootOf}
 use Rattle.root.proofs.Sign.{root-not-below}
 use Rattle.vector.specs.declared.Vector.{Vector}
@@ -31,7 +31,7 @@ use Rattle.sight.specs.declared.Sight.the-variants.{Crossed, Refused}
 use Rattle.sight.specs.Sight.{elevatedOf, pointOf, inputTests, radicandRow, pointsOf, sightLine, sightTests, answered, sightOf}
 use Rattle.sight.proofs.Laws.{within-turn}
 use Rattle.sight.proofs.Larger.{larger-first}
-use Rattle.sight.proofs.Sizes.{Held, mul-at, add-at, sub-at, neg-within, under-2^29, root-most, Each, unit-components, scaled-each, sum-each, dot-within}
+use Rattle.sight.proofs.Sizes.{Held, mul-at, add-at, sub-at, under-2^29, root-most, Each, unit-components, scaled-each, sum-each, dot-within}
 
 -- ---- numbers of f64 over 2^53
 
@@ -175,17 +175,9 @@ module _ (a p : Vector) (e : ℕ) (h v : Vector) (met : allMeet (inputTests a p 
   -- 18 exactly if the radicand is negative
   pub eighteen : allMeet (radicandRow (sightLine a p e h v)) ≡ not (sightLine a p e h v .radicand <ᶠ f0)
   eighteen = and-true (f0 ≤ᶠ sightLine a p e h v .radicand) ∙ zero-side (sightLine a p e h v .radicand) radicand-finite
-    where
-      and-true : (b : Bool) → (b && true) ≡ b
-      and-true true = refl
-      and-true false = refl
 
   handed : allMeet (radicandRow (sightLine a p e h v)) ≡ true → Handed (pointsOf a (sightLine a p e h v))
-  handed g = points-finite a p e h v A P (within-turn a p e h v met) H G (unless (sightLine a p e h v .radicand <ᶠ f0) (sym eighteen ∙ g))
-    where
-      unless : (b : Bool) → not b ≡ true → b ≡ false
-      unless true h = absurd (false≢true h)
-      unless false h = refl
+  handed g = points-finite a p e h v A P (within-turn a p e h v met) H G (not-true (sightLine a p e h v .radicand <ᶠ f0) (sym eighteen ∙ g))
 
 abbrev pub Clean : Sight → Type 0
 Clean (Crossed q) = Handed q

@@ -3,7 +3,7 @@ use Prim.Native.Nat.{ℕ, zero, suc, _+_, _-_, _*_, _/_, _^_, _≤_, _<_}
 use native.Mathlib.Nat.{mul-one, mul-assoc, mul-comm, mul-right-comm, mul-mul-mul-comm, add-mul, mul-le-mul, mul-le-mul-right, mul-pos, le-trans, le-of-lt, le-of-eq, lt-of-lt-of-le, lt-of-mul-lt-mul-right, div-lt-iff-lt-mul, div-le-of-le-mul}
 use native.Mathlib.Omega.{arith}
 use mathlib.Core.Path.{_≡_, refl, sym, ap, _∙_, subst}
-use mathlib.Core.Bool.{Bool, true, false, cond, _&&_, not, Bool·beq, false≢true}
+use mathlib.Core.Bool.{Bool, true, false, cond, _&&_, Bool·beq, false≢true}
 use lib.IntN.{ℤ, pos}
 use lib.Dec.{T, lit≤, ltb, eqb, eqb→eq}
 use lib.Ieee as Ieee
@@ -13,7 +13,7 @@ use lib.Ieee.Order.{round-mono}
 use lib.Ieee.Fits.{down-pos, up-pos, and-r, add-fits}
 use borrow.Author.Tests.{ltb-true, ltb-false, le-ltb}
 use Rattle.real.specs.F64.{_⊕_, _⊖_, _⊗_, _≤ᶠ_, _<ᶠ_, two^, two^-, f1, finite, sizeOf}
-use Rattle.real.proofs.Bounds.{Within, Signed, round-signed, round-within, below-whole, or-cases}
+use Rattle.real.proofs.Bounds.{Within, Signed, round-signed, round-within, below-whole, or-cases, round-from-1, neg-within}
 use Rattle.real.proofs.Finite.{size-at-most}
 use Rattle.vector.specs.declared.Vector.{Vector}
 use Rattle.vector.specs.Vectors.{dotOf, lengthOf, scaledOf, sumOf}
@@ -63,12 +63,6 @@ add-at (fin s m e) (fin t n d) a b l h k =
     sum-at s t (m * up e * down d) (n * up d * down e) (down e * down d) a b l (mul-pos (down-pos e) (down-pos d))
     (subst (λ (z : ℕ). m * up e * down d ≤ z) (mul-assoc a (down e) (down d)) (mul-le-mul-right (down d) h))
     (subst (λ (z : ℕ). n * up d * down e ≤ z) (mul-assoc b (down d) (down e) ∙ ap (λ (z : ℕ). b * z) (mul-comm (down d) (down e))) (mul-le-mul-right (down e) k))
-
-pub neg-within : (x : Float) (a : ℕ) → Within x a → Within (Ieee.neg x) a
-unfolding Ieee.neg
-neg-within nan a h = absurd h
-neg-within (inf s) a h = absurd h
-neg-within (fin s m e) a h = h
 
 pub sub-at : (x y : Float) (a b : ℕ) → Held (a + b) → Within x a → Within y b → Within (x ⊖ y) (a + b)
 unfolding Ieee.sub
@@ -189,10 +183,6 @@ not-both (fin false m e) o h =
 
 -- ---- a length of 1 within 2^-40 is at most 2
 
-fraction-1 : (n d : ℕ) → 0 < d → d ≤ n → T (fin false 1 (pos 0) ≤ᶠ round binary64 false n d)
-unfolding round
-fraction-1 n d p h = round-mono binary64 1 1 n d (lit≤ tt) p (omega arith)
-
 size-of-1 : (x : Float) → T (fin false 1 (pos 0) ≤ᶠ x) → (sizeOf x ≤ᶠ two^- 40) ≡ true → ⊥
 unfolding Ieee.le Ieee.lt Ieee.eq Ieee.neg ofBits
 size-of-1 nan o g = o
@@ -221,7 +211,7 @@ less-1 (fin false m e) n g f = go (ltb (2 * down e) (m * up e)) refl
     go true p =
         let h = ltb-true (2 * down e) (m * up e) p in
         let no-less : ltb (m * up e * 1) (1 * 1 * down e) ≡ false = le-ltb (m * up e * 1) (1 * 1 * down e) (omega arith) in
-        let one = fraction-1 (m * up e * 1 - 1 * 1 * down e) (down e * 1) (omega (arith, down-pos e)) (omega arith) in
+        let one = round-from-1 (m * up e * 1 - 1 * 1 * down e) (down e * 1) (omega (arith, down-pos e)) (omega arith) in
         absurd (size-of-1 (round binary64 false (m * up e * 1 - 1 * 1 * down e) (down e * 1)) one (rw no-less at g))
 
 -- ---- the size of a root, and of what it is the root of

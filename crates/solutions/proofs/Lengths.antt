@@ -1,15 +1,16 @@
 -- Every line fits 512 bytes. Assumes nothing.
-use Prim.Native.Nat.{ℕ, _+_, _≤_}
+use Prim.Native.Nat.{ℕ, _≤_}
 use native.Mathlib.Omega.{arith}
-use mathlib.Core.List.{List, [], _∷_}
+use mathlib.Core.List.{[], _∷_}
 use lib.ListN.{length, length-append}
 use lib.Dec.{lit≤}
-use lib.IntN.{ℤ, pos, negsuc}
+use lib.IntN.{ℤ}
 use lib.Ieee.{Float}
-use Rattle.text.specs.Text.{ascii, signedText}
+use Rattle.text.specs.Text.{ascii}
 use Rattle.text.specs.Pieces.{concat}
 use Rattle.text.proofs.Decimals.{at-most}
-use Rattle.text.proofs.Lays.{concat-append}
+use Rattle.text.proofs.Signs.{signed-short}
+use Rattle.text.proofs.Lays.{size, concat-append}
 use Rattle.columns.proofs.RowLaws.{end-short, labelled-short, refused-fits}
 use Rattle.brackets.proofs.Lengths.{stopped-fits}
 use Rattle.vector.specs.declared.Vector.{Vector}
@@ -23,14 +24,6 @@ use Rattle.solve.specs.declared.Advanced.the-variants as Ad
 use Rattle.solve.specs.declared.Transferred.{Transferred}
 use Rattle.solve.specs.declared.Transferred.the-variants as Tr
 use Rattle.solutions.specs.Solutions.{gradeText, countPieces, timesPieces, gradedPieces, donePieces, turnedPieces, orbitPieces, transferPieces, advancedPieces, transferredPieces}
-
--- the length of pieces
-abbrev size : List (List ℕ) → ℕ
-size xs = length (concat xs)
-
-signed-short : (z : ℤ) → length (signedText z) ≤ 21
-signed-short (pos n) = omega (arith, at-most 20 n)
-signed-short (negsuc n) = omega (arith, at-most 20 (n + 1))
 
 grade-short : (g : Grade) → length (gradeText g) ≤ 6
 grade-short Closed = lit≤ tt

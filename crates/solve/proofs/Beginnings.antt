@@ -6,11 +6,13 @@ use native.Mathlib.Nat as Nat
 use mathlib.Core.Path.{_≡_, refl, sym, ap, _∙_, subst}
 use mathlib.Core.Bool.{Bool, true, false, cond}
 use borrow.Author.Tests.{leb-true, le-leb}
-use lib.Dec.{T, leb, lit≤}
+use lib.Dec.{leb, lit≤}
 use lib.IntN.{ℤ}
 use lib.Signed.{ltZ, leZ, mag, _<ℤ_, _≤ℤ_, ltZ-yes, leZ-yes}
 use lib.Ieee.{Float}
-use Rattle.real.proofs.Tests.{and-0, and-1, both}
+use lib.Ieee.Bits.{is-true}
+use Rattle.facts.proofs.Truth.{and-0, and-1, both, of-true}
+use Rattle.facts.proofs.Wholes.{zero-one}
 use Rattle.iterator.specs.Rule.{widthOf}
 use Rattle.iterator.specs.Same.{sameAs}
 use Rattle.iterator.specs.Single.{timeFinite, isBelow, isAbove, soundOf}
@@ -41,16 +43,6 @@ use Rattle.problem.proofs.Told.{told}
 use Rattle.problem.proofs.Starts.{start-sound, start-few}
 use Rattle.solve.proofs.Asked.{Asked}
 use Rattle.solve.proofs.Last.{held-lower, held-upper, last-ends}
-
-zero-one : _≡_ {A = ℕ} 0 1 → ⊥
-zero-one z = omega arith
-
-of-true : {t : Bool} → t ≡ true → T t
-of-true e = subst T (sym e) tt
-
-is-true : (t : Bool) → T t → t ≡ true
-is-true true h = refl
-is-true false h = absurd h
 
 -- what stands at a grid point agrees with its judgement
 held-agrees : (problem : Problem) (asked : Float) → Asked asked → (n : ℤ) → Agreeing asked (heldOf problem asked n)

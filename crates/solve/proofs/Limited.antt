@@ -9,6 +9,7 @@ use borrow.Author.Needs.{zero≤}
 use lib.Dec.{lit≤}
 use lib.Signed.{ltZ-yes}
 use lib.Ieee.{Float}
+use Rattle.facts.proofs.Wholes.{zero-one}
 use Rattle.iterator.specs.Rule.{widthOf}
 use Rattle.iterator.specs.Run.{more, Ran}
 use Rattle.iterator.specs.declared.Bracket.{Bracket}
@@ -20,9 +21,6 @@ use Rattle.problem.specs.declared.Problem.{Problem}
 use Rattle.problem.specs.declared.Problem.the-variants.{Kepler, Lambert}
 use Rattle.solve.specs.Answers.{endingBy, endingOf, outcomeOf, concludedOf, outcomeTo}
 use Rattle.solve.specs.declared.Outcome.the-variants as O
-
-pub zero-one : _≡_ {A = ℕ} 0 1 → ⊥
-zero-one z = omega arith
 
 -- ---- the trials
 

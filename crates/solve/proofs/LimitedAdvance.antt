@@ -10,13 +10,13 @@ use mathlib.Core.List.{_++_}
 use borrow.Author.Tests.{ltb-true, ltb-false}
 use lib.Dec.{ltb, lit≤}
 use lib.Ieee.{Float}
+use Rattle.facts.proofs.Wholes.{zero-one}
 use Rattle.real.specs.F64.{sizeOf}
 use Rattle.vector.specs.declared.State.{State}
 use Rattle.table.specs.declared.Test.{Test}
 use Rattle.table.specs.declared.Test.the-variants.{Passed, Failed}
-use Rattle.table.specs.Tests.{firstFailing, allMeet, passes}
+use Rattle.table.specs.Tests.{firstFailing, allMeet}
 use Rattle.table.proofs.Laws.{all-met, met-then}
-use Rattle.iterator.specs.Run.{more}
 use Rattle.iterator.specs.declared.Bracket.{Bracket}
 use Rattle.kepler.specs.declared.Motion.{Motion}
 use Rattle.kepler.specs.declared.Arrival.{Arrival}
@@ -40,7 +40,7 @@ use Rattle.solve.proofs.Parts.{failed-then, kepler-whole, kepler-among}
 use Rattle.solve.proofs.Asked.{rest-asked}
 use Rattle.solve.proofs.Beginnings.{stopped-finite, stopped-begins}
 use Rattle.solve.proofs.Numbers.{arrives, nine, found-number}
-use Rattle.solve.proofs.Limited.{zero-one, not-six, outcome-free, outcome-raised, outcome-goes-on, handed, never-stopped}
+use Rattle.solve.proofs.Limited.{not-six, outcome-free, outcome-raised, outcome-goes-on, handed, never-stopped}
 
 no-found : (t : Float) (w : ℕ) (x : Solution) (r : Arrival) (b : Bracket) → foundAs t w x r ≡ Ad.NotFinished b → ⊥
 unfolding foundAs

@@ -7,6 +7,7 @@ use mathlib.Core.Bool.{Bool, true, false}
 use borrow.Author.Tests.{ltb-true, ltb-false}
 use lib.Dec.{ltb, lit≤}
 use lib.Ieee.{Float}
+use Rattle.facts.proofs.Wholes.{zero-one}
 use Rattle.vector.specs.declared.Vector.{Vector}
 use Rattle.table.specs.declared.Test.{Test}
 use Rattle.table.specs.declared.Test.the-variants.{Passed, Failed}
@@ -36,7 +37,7 @@ use Rattle.solve.proofs.Parts.{lambert-start, lambert-whole, lambert-am
 use Rattle.solve.proofs.Asked.{lambert-asked}
 use Rattle.solve.proofs.Beginnings.{stopped-finite, stopped-begins}
 use Rattle.solve.proofs.Numbers.{moved-number}
-use Rattle.solve.proofs.Limited.{zero-one, not-six, outcome-free, outcome-raised, outcome-goes-on, handed, never-stopped}
+use Rattle.solve.proofs.Limited.{not-six, outcome-free, outcome-raised, outcome-goes-on, handed, never-stopped}
 
 moved-by : (r : Test) (v : Vector) (x : Solution) (b : Bracket) → movedBy r v x ≡ Tr.NotFinished b → ⊥
 unfolding movedBy

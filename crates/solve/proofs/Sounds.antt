@@ -1,9 +1,9 @@
 -- The bracket that a solve's trials end on is sound. Assumes nothing.
 use Prim.Native.Nat.{ℕ}
-use native.Mathlib.Omega.{arith}
 use mathlib.Core.Path.{_≡_, refl, subst}
 use mathlib.Core.Bool.{true}
 use lib.Ieee.{Float}
+use Rattle.facts.proofs.Wholes.{zero-one}
 use Rattle.vector.specs.declared.Vector.{Vector}
 use Rattle.vector.specs.declared.State.{State}
 use Rattle.table.specs.declared.Test.{Test}
@@ -26,11 +26,8 @@ use Rattle.solve.specs.declared.Begun.{Begun}
 use Rattle.solve.specs.declared.Begun.the-variants as B
 use Rattle.solve.specs.declared.Ended.the-variants as E
 use Rattle.solve.proofs.Parts.{kepler-whole, lambert-whole}
-use Rattle.solve.proofs.Asked.{Asked, rest-asked, lambert-asked}
+use Rattle.solve.proofs.Asked.{rest-asked, lambert-asked}
 use Rattle.solve.proofs.Beginnings.{begun-goes}
-
-zero-one : _≡_ {A = ℕ} 0 1 → ⊥
-zero-one z = omega arith
 
 abbrev pub IsSound : Float → Bracket → Type 0
 IsSound asked b = soundOf asked (b .lo) (b .hi) (b .below) (b .above) ≡ true

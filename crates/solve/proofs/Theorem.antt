@@ -2,13 +2,13 @@
 -- trials end on stand on either side of the time asked for and the result is in range; the count is that of the rule's own trials,
 -- at most 2b. Assumes nothing.
 use Prim.Native.Nat.{ℕ, _≤_}
-use native.Mathlib.Omega.{arith}
 use mathlib.Core.Path.{_≡_, refl, sym, ap, _∙_}
 use mathlib.Core.Bool.{Bool, true, false, cond, true≢false}
 use lib.ListN.{length}
 use lib.IntN.{ℤ, pos, _+ℤ_}
 use lib.Signed.{ltZ}
 use lib.Ieee.{Float}
+use Rattle.facts.proofs.Wholes.{zero-one}
 use Rattle.real.specs.F64.{_≤ᶠ_, _<ᶠ_, sizeOf}
 use Rattle.vector.specs.declared.Vector.{Vector}
 use Rattle.vector.specs.declared.State.{State}
@@ -74,9 +74,6 @@ held-carries problem asked n = go (ltZ (startOf problem .lo) n) (ltZ n (startOf 
     go true true = judge-carries problem asked n
     go true false = refl
     go false b = refl
-
-zero-one : _≡_ {A = ℕ} 0 1 → ⊥
-zero-one z = omega arith
 
 low-by : (j : Judgement) (t : Float) → isBelow j ≡ true → carriedBy j ≡ time t → j ≡ Low t
 low-by (Low v) t h e = let k : v ≡ t = cc in ap Low k

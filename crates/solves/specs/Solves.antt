@@ -1,5 +1,5 @@
 -- What a solve's line holds behind its name: a form for each, whatever is asked of the solve. Assumes nothing: these are definitions.
-use Prim.Native.Nat.{ℕ, _+_}
+use Prim.Native.Nat.{ℕ}
 use mathlib.Core.Path.{_≡_}
 use mathlib.Core.List.{List}
 use lib.Ieee.{Float}

@@ -9,16 +9,12 @@ use lib.ListN.{length, take, drop, length-append, length-drop}
 use lib.Seq.{drop-drop, take-all, take-at, length-take-le}
 use lib.Dec.{ltb, eqb}
 use borrow.Author.Tests.{ltb-true, ltb-false}
+use Rattle.facts.proofs.Lists.{take-most}
 use Rattle.split.specs.declared.Found.the-variants.{Line, Kept}
 use Rattle.text.specs.Pieces.{concat}
 use Rattle.split.specs.Split.{Rows, ended, grown, rowsFrom, joined, linesFrom, cut, ahead, added, foundOf, roomOf}
 use Rattle.split.specs.Calls.{Calls, last, next, Input, done, part}
 use Rattle.split.proofs.Parts.{one-cut, take-front, take-none, cut-lines}
-
-take-most : (n : ℕ) (l : List ℕ) → length (take n l) ≤ n
-take-most zero l = zero-le
-take-most (suc n) [] = zero-le
-take-most (suc n) (x ∷ l) = omega (arith, take-most n l)
 
 abbrev keeps : List ℕ → Rows
 keeps k = record { lines = []; kept = k }

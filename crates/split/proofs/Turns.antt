@@ -6,9 +6,10 @@ use mathlib.Core.Path.{_≡_, refl, sym, ap, _∙_}
 use mathlib.Core.List.{List, [], _∷_, _++_, append-assoc, append-nil}
 use mathlib.Core.Bool.{Bool, true, false, cond}
 use lib.ListN.{length, getD, take, drop, set, length-append, length-drop, take-append-drop}
-use lib.Seq.{drop-cons, take-all, take-append-le}
+use lib.Seq.{drop-cons, take-all, take-append-le, take-nil}
 use lib.Dec.{ltb, leb}
 use borrow.Author.Tests.{lt-ltb, le-ltb, eq-eqb, ne-eqb, leb-true, leb-false}
+use Rattle.facts.proofs.Lists.{take-short, take-most, empty-list}
 use Rattle.text.specs.Text.{Stands}
 use Rattle.text.proofs.Stand.{then, one, same-size}
 use Rattle.split.specs.declared.Found.the-variants.{Line, Kept}
@@ -23,13 +24,9 @@ pub record Passed (d : List ℕ) (kept : ℕ) (part : List ℕ) (from : ℕ) (e 
   pub next : k ≡ kept + length (take (length d - kept) y)
   pub room : e ≡ take kept d ++ (take (length d - kept) y ++ drop k d)
 
-take-zero : {X : Type 0} (n : ℕ) → take {A = X} n [] ≡ []
-take-zero zero = refl
-take-zero (suc n) = refl
-
 pub begin : (d part : List ℕ) (kept from : ℕ) → Passed d kept part from d kept from
 begin d part kept from =
-    let z = take-zero {X = ℕ} (length d - kept) in
+    let z = take-nil {A = ℕ} (length d - kept) in
     record {
       y = [];
       whole = refl;
@@ -39,24 +36,10 @@ begin d part kept from =
       room = rw z (sym (take-append-drop kept d));
     }
 
-take-short : (m : ℕ) (l : List ℕ) → length (take m l) < m → take m l ≡ l
-take-short zero l h = let w : ⊥ = omega arith in absurd w
-take-short (suc m) [] h = refl
-take-short (suc m) (x ∷ l) h = ap (λ (z : List ℕ). x ∷ z) (take-short m l (omega arith))
-
-take-most : (m : ℕ) (l : List ℕ) → length (take m l) ≤ m
-take-most zero l = zero-le
-take-most (suc m) [] = zero-le
-take-most (suc m) (x ∷ l) = omega (arith, take-most m l)
-
 take-size : (m : ℕ) (l : List ℕ) → length (take m l) ≤ length l
 take-size zero l = zero-le
 take-size (suc m) [] = zero-le
 take-size (suc m) (x ∷ l) = omega (arith, take-size m l)
-
-none-left : (l : List ℕ) → length l ≤ 0 → l ≡ []
-none-left [] h = refl
-none-left (x ∷ l) h = let w : ⊥ = omega arith in absurd w
 
 module _ {d : List ℕ} {kept : ℕ} {part : List ℕ} {from : ℕ} {e : List ℕ} {k i : ℕ} (p : Passed d kept part from e k i) where
   room-is : ahead (drop from part) ≡ p .y → e ≡ roomOf d kept (drop from part)
@@ -89,7 +72,7 @@ module _ {d : List ℕ} {kept : ℕ} {part : List ℕ} {from : ℕ} {e : List �
   pub is-kept : length part ≤ i → (Kept k ≡ foundOf d kept from (drop from part)) × (e ≡ roomOf d kept (drop from part))
   unfolding ahead
   is-kept l =
-      let a : ahead (drop i part) ≡ [] = ap ahead (none-left (drop i part) (omega (arith, length-drop i part))) in
+      let a : ahead (drop i part) ≡ [] = ap ahead (empty-list (drop i part) (omega (arith, length-drop i part))) in
       let q : ahead (drop from part) ≡ p .y = p .clean ∙ ap (λ (z : List ℕ). p .y ++ z) a ∙ append-nil (p .y) in
       let t = le-ltb (length (p .y)) (length (drop from part)) (omega (arith, size)) in
       (sym (found-is q false t), room-is q)

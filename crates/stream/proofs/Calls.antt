@@ -8,6 +8,7 @@ use lib.ListN.{length, take, drop, length-append, length-drop}
 use lib.Seq.{drop-drop, take-at, length-take-le}
 use lib.Dec.{ltb, eqb}
 use borrow.Author.Tests.{lt-ltb, le-ltb, ltb-false, ne-eqb, eqb-true}
+use Rattle.facts.proofs.Lists.{take-most}
 use Rattle.text.specs.Text.{Stands}
 use Rattle.text.proofs.Stand.{same-size}
 use Rattle.session.specs.declared.record.Record.{Record}
@@ -22,10 +23,9 @@ use Rattle.stream.specs.declared.Standing.{Standing}
 use Rattle.stream.specs.declared.Standing.the-variants.{Open, Refused, Ended}
 use Rattle.stream.specs.declared.Step.{Step}
 use Rattle.stream.specs.declared.Step.the-variants as S
-use Rattle.stream.specs.Stream.{Ending, ended, refused, Run, stop, behind, joined, wholeOf, Reader, reading, stopped, Move, got, set, none, limit, foundAt, seen, moveFor, moveOf, endOf, concat, standingOf, isSound, stepIn, put, roomOn, stepOn, stepOpen, roomOpen, stepOf, roomOf, finishOf}
+use Rattle.stream.specs.Stream.{Ending, ended, refused, Run, stop, joined, wholeOf, Reader, reading, stopped, Move, got, set, none, limit, foundAt, seen, moveFor, moveOf, endOf, concat, standingOf, isSound, stepIn, put, roomOn, stepOn, stepOpen, roomOpen, stepOf, roomOf, finishOf}
 use Rattle.stream.specs.Calls.{Calls, last, next, sets, endIn, Session, done, more}
 use Rattle.stream.proofs.Parts.{leftOf, Kept, taken, Goes, Stays, After, move-law, end-law, joins, all-seen}
-use Rattle.stream.proofs.Steps.{take-most}
 use Rattle.stream.proofs.Opens.{Sound, sound-by, sound, is-sound, is-over, is-passed, is-empty}
 
 -- the reader that code has

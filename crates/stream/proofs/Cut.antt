@@ -1,5 +1,5 @@
 -- A record that is cut short: it has under 62 bytes, and the whole record is longer than what is there. Assumes nothing.
-use Prim.Native.Nat.{ℕ, _+_, _≤_, _<_}
+use Prim.Native.Nat.{ℕ, _≤_, _<_}
 use native.Mathlib.Omega.{arith}
 use mathlib.Core.Path.{_≡_, refl, sym, ap, _∙_}
 use mathlib.Core.List.{List, _++_}
@@ -8,6 +8,7 @@ use lib.ListN.{length}
 use lib.Dec.{ltb, leb, eqb, lit≤}
 use lib.IntN.{ℤ}
 use borrow.Author.Tests.{ltb-true, ltb-false, leb-true, eqb-true}
+use Rattle.facts.proofs.Truth.{each}
 use Rattle.session.specs.declared.record.Kind.{Kind}
 use Rattle.session.specs.declared.record.Kind.the-variants.{State, Burn, Mark}
 use Rattle.session.specs.declared.record.Found.{Found}
@@ -15,13 +16,11 @@ use Rattle.session.specs.declared.record.Found.the-variants.{Known, Unknown}
 use Rattle.session.specs.declared.record.Head.{Head}
 use Rattle.session.specs.declared.record.Head.the-variants.{Good, Bad}
 use Rattle.session.specs.declared.record.Record.{Record}
-use Rattle.session.specs.declared.record.Decoded.{Decoded}
 use Rattle.session.specs.declared.record.Decoded.the-variants.{Whole, Offset, Refused}
 use Rattle.field.specs.Bytes.{field}
 use Rattle.session.specs.Kinds.{kindOf, lengthOf, numberOf}
 use Rattle.session.specs.Decode.{allowedAt, judged, headOf, decoded, decodeOf}
 use Rattle.session.specs.Offset.{isOffset, minutesAt, goodOffset, offsetOf, decodeAt}
-use Rattle.session.proofs.Numbers.{both}
 use Rattle.session.proofs.Table.{kind-number}
 use Rattle.session.proofs.Heads.{good-kind, whole-fits}
 use Rattle.session.proofs.Offsets.{at-whole, at-offset}
@@ -78,7 +77,7 @@ by-size true false false z p = let z : _≡_ {A = ℕ} 14 11 = cc in let w : ⊥
 
 by-kind : (b first : Bool) (s : List ℕ) → isOffset s ≡ b → cond b (offsetOf first s) (decodeOf s) ≡ Refused 11 → Eleven s
 by-kind true first s i p =
-    let k = both (leb 4 (length s)) (eqb (field 2 2 s) 4) i in
+    let k = each (leb 4 (length s)) (eqb (field 2 2 s) 4) i in
     let t = by-size (eqb (field 0 2 s) 8) (ltb (length s) 8) (goodOffset first s) (minutesAt s) p in
     set (leb-true 4 (length s) (k .0)) (eqb-true (field 2 2 s) 4 (k .1)) (eqb-true (field 0 2 s) 8 (t .0)) (ltb-true (length s) 8 (t .1))
 by-kind false first s i p = by-front s (ltb (length s) 4) (ltb (field 0 2 s) 4) refl (by-head (headOf s) s p)

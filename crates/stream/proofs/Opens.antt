@@ -1,33 +1,26 @@
 -- The tests of an open reader, and what they leave. Assumes nothing.
-use Prim.Native.Nat.{ℕ, zero, suc, _+_, _-_, _≤_, _<_}
+use Prim.Native.Nat.{ℕ, _+_, _-_, _≤_, _<_}
 use native.Mathlib.Nat.{add-zero}
 use native.Mathlib.Omega.{arith}
 use mathlib.Core.Path.{_≡_, refl, sym, ap, _∙_}
-use mathlib.Core.List.{List, [], _∷_, _++_, append-nil}
-use mathlib.Core.Bool.{Bool, true, false, cond, not, _&&_}
+use mathlib.Core.List.{List, [], _++_, append-nil}
+use mathlib.Core.Bool.{Bool, true, false}
 use lib.ListN.{length, take, drop, length-drop, take-append-drop}
-use lib.Seq.{length-take-le}
+use lib.Seq.{length-take-le, take-nil}
 use lib.Dec.{ltb, eqb}
 use borrow.Author.Tests.{lt-ltb, le-ltb, ltb-true, ltb-false}
+use Rattle.facts.proofs.Truth.{each}
+use Rattle.facts.proofs.Lists.{empty-list}
 use Rattle.session.specs.declared.record.Decoded.{Decoded}
 use Rattle.session.specs.declared.record.Decoded.the-variants as D
 use Rattle.session.specs.declared.Place.{Place}
 use Rattle.session.specs.Limits.{offsetAllowed}
-use Rattle.session.proofs.Numbers.{both}
 use Rattle.stream.specs.declared.Standing.the-variants.{Open, Refused}
 use Rattle.stream.specs.declared.Step.{Step}
 use Rattle.stream.specs.declared.Step.the-variants as S
 use Rattle.stream.specs.Stream.{limit, foundAt, moveFor, isCut, isSound, stepIn, stepOn, roomOn, opened, stepOpen, roomOpen}
 use Rattle.stream.proofs.Cut.{short}
 use Rattle.stream.proofs.Steps.{cut-eleven, front-long}
-
-empty : (l : List ℕ) → length l ≤ 0 → l ≡ []
-empty [] h = refl
-empty (b ∷ l) h = let w : ⊥ = omega arith in absurd w
-
-nothing : (n : ℕ) → _≡_ {A = List ℕ} (take n []) []
-nothing zero = refl
-nothing (suc n) = refl
 
 -- a state that the tests let pass
 pub record Sound (p : Place) (k : ℕ) (d : List ℕ) : Type 0 where
@@ -45,7 +38,7 @@ module _ (p : Place) (k : ℕ) (d : List ℕ) where
 
   pub sound : 62 ≤ length d → isSound p (take k d) ≡ true → Sound p k d
   sound h s =
-      let b = both (offsetAllowed (p .offset)) (isCut (foundAt p (take k d))) s in
+      let b = each (offsetAllowed (p .offset)) (isCut (foundAt p (take k d))) s in
       sound-by h (cut-eleven (foundAt p (take k d)) (b .1)) (b .0)
 
   pub is-sound : Sound p k d → isSound p (take k d) ≡ true
@@ -93,7 +86,7 @@ module _ (p : Place) (k : ℕ) (d : List ℕ) where
 
     -- with no byte left the reader waits
     none-left : length part ≤ from → drop from part ≡ []
-    none-left h = empty (drop from part) (omega (arith, length-drop from part))
+    none-left h = empty-list (drop from part) (omega (arith, length-drop from part))
 
     pub is-empty : Sound p k d → 62 ≤ length d → length part ≤ from → (S.Stopped (Open p k) ≡ stepOn p k d part from) × (d ≡ roomOn k d part from)
     is-empty s h l =
@@ -102,10 +95,10 @@ module _ (p : Place) (k : ℕ) (d : List ℕ) where
         let z : length (take k d ++ []) ≡ k = ap length (append-nil (take k d)) ∙ length-take-le k d (omega (arith, s .fits)) in (
           ap (λ (j : ℕ). S.Stopped (Open p j)) (sym z)
               ∙ sym (ap (λ (r : List ℕ). stepIn from (moveFor (foundAt p (take k d ++ take (62 - length (take k d)) r)) p (take k d) r)) e
-              ∙ ap (λ (r : List ℕ). stepIn from (moveFor (foundAt p (take k d ++ r)) p (take k d) [])) (nothing (62 - length (take k d)))
+              ∙ ap (λ (r : List ℕ). stepIn from (moveFor (foundAt p (take k d ++ r)) p (take k d) [])) (take-nil {A = ℕ} (62 - length (take k d)))
               ∙ ap (λ (q : Decoded). stepIn from (moveFor q p (take k d) [])) a),
           sym (ap (λ (r : List ℕ). take k d ++ (take (62 - k) r ++ drop (k + length (take (62 - k) r)) d)) e
-              ∙ ap (λ (r : List ℕ). take k d ++ (r ++ drop (k + length r) d)) (nothing (62 - k))
+              ∙ ap (λ (r : List ℕ). take k d ++ (r ++ drop (k + length r) d)) (take-nil {A = ℕ} (62 - k))
               ∙ ap (λ (j : ℕ). take k d ++ drop j d) (add-zero k)
               ∙ take-append-drop k d),
         )

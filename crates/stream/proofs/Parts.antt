@@ -6,9 +6,9 @@ use mathlib.Core.List.{List, [], _∷_, _++_, append-assoc, append-nil}
 use mathlib.Core.Bool.{Bool, true, false, cond}
 use lib.ListN.{length, take, drop, length-append, length-drop, take-append-drop}
 use lib.Seq.{drop-drop, drop-at, drop-append-le}
-use lib.Dec.{ltb, eqb}
-use lib.IntN.{ℤ}
+use lib.Dec.{eqb}
 use borrow.Author.Tests.{le-ltb, eqb-true, eq-eqb}
+use Rattle.facts.proofs.Lists.{take-short}
 use Rattle.session.specs.declared.record.Record.{Record}
 use Rattle.session.specs.declared.record.Decoded.{Decoded}
 use Rattle.session.specs.declared.record.Decoded.the-variants.{Whole, Offset, Refused}
@@ -19,7 +19,7 @@ use Rattle.session.specs.Limits.{offsetAllowed}
 use Rattle.session.specs.Read.{start}
 use Rattle.session.proofs.Offsets.{at-offset}
 use Rattle.session.proofs.OffsetBack.{stable-at}
-use Rattle.stream.specs.Stream.{Ending, ended, refused, Run, stop, behind, joined, endingOf, past, foundAt, wholeFrom, wholeOf, Reader, reading, stopped, Move, got, set, none, limit, seen, moveFor, moveOf, Fed, feedIn, feedOf, endOf, partsOf, concat}
+use Rattle.stream.specs.Stream.{refused, Run, stop, behind, joined, endingOf, past, foundAt, wholeFrom, wholeOf, Reader, reading, stopped, Move, got, set, none, limit, seen, moveFor, moveOf, feedIn, feedOf, endOf, partsOf, concat}
 use Rattle.stream.proofs.Cut.{short, record-past, offset-past}
 use Rattle.stream.proofs.Whole.{found-fits, offset-fits, whole-record, whole-offset, whole-refused}
 
@@ -55,11 +55,6 @@ abbrev pub After : Reader → List ℕ → Move → Type 0
 After x rest (got r q n) = Goes x rest (A.Record r q) n (reading q [])
 After x rest (set q n) = Goes x rest (A.Offset q) n (reading q [])
 After x rest (none y) = Stays x rest [] y
-
-take-short : (m : ℕ) (l : List ℕ) → length (take m l) < m → take m l ≡ l
-take-short zero l h = let w : ⊥ = omega arith in absurd w
-take-short (suc m) [] h = refl
-take-short (suc m) (x ∷ l) h = ap (λ (z : List ℕ). x ∷ z) (take-short m l (omega arith))
 
 never : (n : ℕ) → eqb n 11 ≡ false → Refused n ≡ Refused 11 → ⊥
 never n h y =

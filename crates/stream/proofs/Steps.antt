@@ -1,14 +1,16 @@
 -- What the code answers, by what it decoded, is the definition's step. Assumes nothing.
-use Prim.Native.Nat.{ℕ, zero, suc, _+_, _-_, _≤_, _<_, zero-le}
+use Prim.Native.Nat.{ℕ, _+_, _-_, _≤_, _<_}
 use native.Mathlib.Omega.{arith}
 use mathlib.Core.Path.{_≡_, refl, sym, ap, _∙_}
-use mathlib.Core.List.{List, [], _∷_, _++_, append-nil}
-use mathlib.Core.Bool.{Bool, true, false, cond, _&&_}
-use lib.ListN.{length, take, drop, length-append, length-drop, take-append-drop}
+use mathlib.Core.List.{List, [], _++_}
+use mathlib.Core.Bool.{Bool, true, false, cond}
+use lib.ListN.{length, take, drop, length-drop}
 use lib.Seq.{length-take-le, take-all}
 use lib.Dec.{ltb, eqb}
 use lib.IntN.{ℤ}
 use borrow.Author.Tests.{ltb-true, ltb-false, eqb-true, ne-eqb}
+use Rattle.facts.proofs.Truth.{and-fails}
+use Rattle.facts.proofs.Lists.{take-most}
 use Rattle.text.specs.Text.{Stands, Put}
 use Rattle.text.proofs.Stand.{before-place, same-size}
 use Rattle.session.specs.declared.record.Record.{Record}
@@ -17,10 +19,9 @@ use Rattle.session.specs.declared.record.Decoded.the-variants as D
 use Rattle.session.specs.declared.Place.{Place}
 use Rattle.session.specs.declared.Reading.the-variants as A
 use Rattle.session.specs.Limits.{offsetAllowed}
-use Rattle.stream.specs.declared.Standing.the-variants.{Open, Refused, Ended}
-use Rattle.stream.specs.declared.Step.{Step}
+use Rattle.stream.specs.declared.Standing.the-variants.{Open, Refused}
 use Rattle.stream.specs.declared.Step.the-variants as S
-use Rattle.stream.specs.Stream.{refused, Reader, reading, stopped, Move, got, set, none, limit, past, foundAt, seen, moveFor, isCut, isSound, put, stepIn, stepOn, roomOn}
+use Rattle.stream.specs.Stream.{refused, reading, stopped, none, past, foundAt, seen, moveFor, isCut, isSound, stepIn, stepOn, roomOn}
 use Rattle.stream.proofs.Cut.{short}
 use Rattle.stream.proofs.Parts.{Goes, on-record, on-offset, all-seen}
 
@@ -40,11 +41,6 @@ share-by a n false e = (omega (arith, ltb-false a n e), omega arith)
 
 pub share-fits : (a n : ℕ) → (cond (ltb a n) a n ≤ a) × (cond (ltb a n) a n ≤ n)
 share-fits a n = share-by a n (ltb a n) refl
-
-pub take-most : (n : ℕ) (l : List ℕ) → length (take n l) ≤ n
-take-most zero l = zero-le
-take-most (suc n) [] = zero-le
-take-most (suc n) (x ∷ l) = omega (arith, take-most n l)
 
 pub added : {kept m n : ℕ} {d e : List ℕ} (from : ℕ) (part : List ℕ) → 62 ≤ length d → kept ≤ 62
     → m ≡ cond (ltb (length part - from) (62 - kept)) (length part - from) (62 - kept)
@@ -72,12 +68,8 @@ not-cut false p l e h = refl
 pub long-not-cut : (p : Place) (l : List ℕ) → 62 ≤ length l → isCut (foundAt p l) ≡ false
 long-not-cut p l h = not-cut (isCut (foundAt p l)) p l refl h
 
-and-false : (a b : Bool) → b ≡ false → a && b ≡ false
-and-false true b e = e
-and-false false b e = refl
-
 pub not-sound : (p : Place) (l : List ℕ) → isCut (foundAt p l) ≡ false → isSound p l ≡ false
-not-sound p l e = and-false (offsetAllowed (p .offset)) (isCut (foundAt p l)) e
+not-sound p l e = and-fails (offsetAllowed (p .offset)) (isCut (foundAt p l)) e
 
 -- the front of a room that holds 62 bytes
 pub front-long : (k : ℕ) (d : List ℕ) → 62 ≤ length d → 61 < k → 62 ≤ length (take k d)

@@ -1,12 +1,12 @@
 -- A list of tests: the one that is told fails and those ahead of it are met; none is told where all are met; its number is that of
 -- the first row that applies. Once for every list. Assumes nothing.
 use Prim.Native.Nat.{ℕ, zero, suc}
-use native.Mathlib.Omega.{arith}
 use mathlib.Core.Path.{_≡_, refl, sym, ap, _∙_, subst}
 use mathlib.Core.Bool.{Bool, true, false, cond, not, _&&_, _||_, false≢true, and-assoc}
 use mathlib.Core.List.{List, [], _∷_, _++_}
 use lib.Dec.{T, eqb, eqb→eq}
-use Rattle.real.proofs.Tests.{and-0, and-1}
+use Rattle.facts.proofs.Truth.{and-0, and-1}
+use Rattle.facts.proofs.Wholes.{zero-one}
 use Rattle.table.specs.declared.Entry.{Entry}
 use Rattle.table.specs.declared.Test.{Test}
 use Rattle.table.specs.declared.Test.the-variants.{Passed, Failed}
@@ -32,9 +32,6 @@ first-failing (e ∷ es) = go (first-failing es) (meets e)
 pub then : (t : Test) (xs ys : List Entry) → t ▷ xs ▷ ys ≡ t ▷ (xs ++ ys)
 then t [] ys = refl
 then t (e ∷ xs) ys = then (told t (meets e) e) xs ys
-
-zero-one : _≡_ {A = ℕ} 0 1 → ⊥
-zero-one e = omega arith
 
 -- ---- 1: the reason is true, and there is no second one
 

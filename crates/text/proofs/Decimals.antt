@@ -2,13 +2,14 @@
 use Prim.Native.Nat.{ℕ, zero, suc, _+_, _-_, _*_, _/_, _%_, _^_, _≤_, _<_, zero-le, suc-le-suc}
 use native.Mathlib.Nat.{pow-suc}
 use native.Mathlib.Omega.{arith}
-use mathlib.Core.Path.{_≡_, refl, ap, _∙_}
+use native.Mathlib.Numerals.{add-one}
+use mathlib.Core.Path.{_≡_, refl, sym, ap, _∙_}
 use mathlib.Core.List.{List, [], _∷_, _++_}
 use mathlib.Core.Bool.{Bool, true, false, cond}
 use lib.ListN.{length, length-append}
 use lib.Dec.{ltb}
-use borrow.Author.Tests.{lt-ltb, le-ltb, ltb-false}
-use Rattle.text.specs.Text.{digitText, digits, decimal}
+use borrow.Author.Tests.{lt-ltb, le-ltb, ltb-true, ltb-false}
+use Rattle.text.specs.Text.{digits, decimal}
 
 -- n below ten to the k has at most k digits
 few : (f k n : ℕ) (b : Bool) → ((j : ℕ) → n / 10 < 10 ^ suc j → length (digits f (n / 10)) ≤ suc j) → ltb n 10 ≡ b → n < 10 ^ suc k
@@ -23,13 +24,6 @@ pub short : (f k n : ℕ) → n < 10 ^ suc k → length (digits f n) ≤ suc k
 unfolding digits
 short zero k n h = zero-le
 short (suc f) k n h = few f k n (ltb n 10) (λ j q. short f j (n / 10) q) refl h
-
--- a digit under ten
-pub decimal-digit : (d : ℕ) → d < 10 → digitText (d % 16) ≡ 48 + d
-unfolding digitText
-decimal-digit d h =
-    let e : d % 16 ≡ d = omega arith in
-    rw (e, lt-ltb d 10 h) refl
 
 -- the digits of n: none, one, or one more
 pub digits-none : (k n : ℕ) → k ≡ 0 → digits k n ≡ []
@@ -48,10 +42,6 @@ digits-more (suc k) n z h =
     let e : k ≡ suc k - 1 = omega arith in
     simp (le-ltb n 10 h) (ap (λ (j : ℕ). digits j (n / 10) ++ ((48 + n % 10) ∷ [])) e)
 
-pub nonzero : (k : ℕ) → (k ≡ 0 → ⊥) → 1 ≤ k
-nonzero zero z = absurd (z refl)
-nonzero (suc k) z = suc-le-suc zero-le
-
 pub digits-longer : (k n : ℕ) → (k ≡ 0 → ⊥) → 10 ≤ n → length (digits k n) ≡ length (digits (k - 1) (n / 10)) + 1
 digits-longer k n z h = ap length (digits-more k n z h) ∙ length-append (digits (k - 1) (n / 10)) ((48 + n % 10) ∷ [])
 
@@ -65,6 +55,32 @@ pub at-most : (k n : ℕ) → length (digits k n) ≤ k
 unfolding digits
 at-most zero n = zero-le
 at-most (suc k) n = fewer k n (ltb n 10) (at-most k (n / 10))
+
+-- the last k decimal digits of n
+unfoldable pub lasts : ℕ → ℕ → List ℕ
+lasts zero n = []
+lasts (suc k) n = lasts k (n / 10) ++ ((48 + n % 10) ∷ [])
+
+pub lasts-more : (k n : ℕ) → 0 < k → lasts k n ≡ lasts (k - 1) (n / 10) ++ ((48 + n % 10) ∷ [])
+unfolding lasts
+lasts-more zero n h = let z : ⊥ = omega arith in absurd z
+lasts-more (suc k) n h =
+    let e : k ≡ suc k - 1 = omega arith in
+    ap (λ (j : ℕ). lasts j (n / 10) ++ ((48 + n % 10) ∷ [])) e
+
+-- the digits of n are its last ones, as many as there are
+lasts-either : (k n : ℕ) (b : Bool) → ltb n 10 ≡ b → digits k (n / 10) ≡ lasts (length (digits k (n / 10))) (n / 10)
+    → let x = cond b ((48 + n) ∷ []) (digits k (n / 10) ++ ((48 + n % 10) ∷ [])) in x ≡ lasts (length x) n
+unfolding lasts
+lasts-either k n true e h = let m : n ≡ n % 10 = omega (arith, ltb-true n 10 e) in ap (λ (d : ℕ). (48 + d) ∷ []) m
+lasts-either k n false e h =
+    ap (λ (l : List ℕ). l ++ ((48 + n % 10) ∷ [])) h
+    ∙ ap (λ (j : ℕ). lasts j n) (sym (length-append (digits k (n / 10)) ((48 + n % 10) ∷ []) ∙ add-one _))
+
+pub all-lasts : (k n : ℕ) → digits k n ≡ lasts (length (digits k n)) n
+unfolding digits lasts
+all-lasts zero n = refl
+all-lasts (suc k) n = lasts-either k n (ltb n 10) refl (all-lasts k (n / 10))
 
 -- the number that decimal digits stand for, behind those whose value is v
 abbrev pub valueFrom : ℕ → List ℕ → ℕ

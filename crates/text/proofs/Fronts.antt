@@ -1,10 +1,11 @@
 -- A line at the front of a buffer that has the room, and a shorter buffer. Assumes nothing.
 use Prim.Native.Nat.{ℕ, _≤_, _<_}
 use native.Mathlib.Omega.{arith}
-use mathlib.Core.Path.{refl, ap}
+use mathlib.Core.Path.{_≡_, refl, ap, _∙_}
 use mathlib.Core.List.{List}
-use lib.ListN.{length}
+use lib.ListN.{length, drop, length-append}
 use borrow.Author.Tests.{lt-ltb, le-ltb}
+use Rattle.text.specs.declared.Made.{Made}
 use Rattle.text.specs.declared.Made.the-variants.{Line, Refused}
 use Rattle.text.specs.Text.{IfFits, InFront}
 use Rattle.text.proofs.Stand.{at-front}
@@ -16,3 +17,11 @@ pub in-front : {room : ℕ} {x d e : List ℕ} {r : ℕ} → room ≤ length d �
 in-front h l p =
     let f = at-front (p (omega arith)) in
     record { answer = rw (le-ltb _ _ h) (ap Line (f .0)); buffer = rw (le-ltb _ _ h) (f .1) }
+
+-- the line that is made lies within the buffer
+pub line-inside : (room : ℕ) (x d e : List ℕ) (r : Made) (n : ℕ) → room ≤ length d → InFront room x d e r → r ≡ Line n → n ≤ length e
+line-inside room x d e r n h m q =
+    let a = rw (le-ltb (length d) room h) at (m .answer) in
+    let b = rw (le-ltb (length d) room h) at (m .buffer) in
+    let s : n ≡ length x = cc in
+    omega (arith, ap length b ∙ length-append x (drop (length x) d))

@@ -1,5 +1,5 @@
 -- Laws of pieces laid one behind the other. Assumes nothing.
-use Prim.Native.Nat.{ℕ, _+_}
+use Prim.Native.Nat.{ℕ}
 use native.Mathlib.Omega.{arith}
 use mathlib.Core.Path.{_≡_, refl, sym, ap, _∙_, subst}
 use mathlib.Core.List.{List, [], _∷_, _++_, append-assoc}
@@ -19,6 +19,9 @@ pub and-then : {d : List ℕ} {at : ℕ} {xs : List (List ℕ)} {m : List ℕ} {
     → Laid d at (xs ++ ys) e r
 and-then end q = q
 and-then (then p l) q = then p (and-then l q)
+
+pub laid-as : {d : List ℕ} {at : ℕ} {xs ys : List (List ℕ)} {e : List ℕ} {r : ℕ} → xs ≡ ys → Laid d at xs e r → Laid d at ys e r
+laid-as {d} {at} {xs} {ys} {e} {r} p l = subst (λ (zs : List (List ℕ)). Laid d at zs e r) p l
 
 pub laid-size : {d : List ℕ} {at : ℕ} {xs : List (List ℕ)} {e : List ℕ} {r : ℕ} → Laid d at xs e r → length e ≡ length d
 laid-size end = refl
@@ -40,6 +43,9 @@ one-laid {f = f} {t = t} (then {xs = xs} {t = u} p l) (then {m = n} {t = v} q k)
     one-laid l (subst (λ (n : List ℕ). Laid n u xs f t) (s .0) (subst (λ (i : ℕ). Laid n i xs f t) (s .1) k))
 
 -- the length of pieces
+abbrev pub size : List (List ℕ) → ℕ
+size xs = length (concat xs)
+
 pub concat-append : (xs ys : List (List ℕ)) → concat (xs ++ ys) ≡ concat xs ++ concat ys
 unfolding concat
 concat-append [] ys = refl

@@ -1,15 +1,17 @@
 -- Laws of signed numbers. Assumes nothing.
-use Prim.Native.Nat.{ℕ, zero, suc, _+_, zero-le, suc-le-suc}
+use Prim.Native.Nat.{ℕ, zero, suc, _+_, _≤_, zero-le, suc-le-suc}
 use native.Mathlib.Nat.{zero-add}
 use native.Mathlib.Omega.{arith}
 use mathlib.Core.Path.{_≡_, refl, sym, ap}
 use mathlib.Core.List.{_∷_}
 use mathlib.Core.Bool.{true, false, true≢false}
 use borrow.Author.Tests.{le-ltb}
+use lib.ListN.{length}
 use lib.IntN.{ℤ, pos, negsuc, _-ℤ_}
 use lib.Signed.{mag, ltZ}
 use Rattle.text.specs.Sign.{negative}
 use Rattle.text.specs.Text.{decimal, signedText}
+use Rattle.text.proofs.Decimals.{at-most}
 
 pub minus-one : (k : ℕ) → negsuc 0 -ℤ pos k ≡ negsuc k
 minus-one zero = refl
@@ -40,3 +42,8 @@ text-neg (negsuc n) t = refl
 pub text-pos : (z : ℤ) → negative z ≡ false → signedText z ≡ decimal (mag z)
 text-pos (pos n) t = refl
 text-pos (negsuc n) t = absurd (true≢false t)
+
+-- a sign and twenty digits
+pub signed-short : (z : ℤ) → length (signedText z) ≤ 21
+signed-short (pos n) = omega (arith, at-most 20 n)
+signed-short (negsuc n) = omega (arith, at-most 20 (n + 1))

@@ -1,5 +1,5 @@
 -- Laws of text that stands in a buffer, once for every text. Assumes nothing.
-use Prim.Native.Nat.{ℕ, _+_, _≤_, _<_}
+use Prim.Native.Nat.{ℕ, _+_, _-_, _≤_, _<_}
 use native.Mathlib.Nat.{add-zero}
 use native.Mathlib.Numerals.{add-one}
 use native.Mathlib.Omega.{arith}
@@ -103,3 +103,10 @@ earlier {d} {e} {f} {x} {y} {a} {m} {r} p q =
           q .whole ∙ ap (λ (z : List ℕ). z ++ (x ++ drop m e)) t ∙ ap (λ (z : List ℕ). take a d ++ (x ++ z)) u
           ∙ ap (λ (z : List ℕ). take a d ++ z) (sym (append-assoc x y (drop r d)));
     }
+
+-- the last byte put first
+pub last-first : {d f x : List ℕ} {a : ℕ} (i b : ℕ) → 0 < i → a + i ≤ length d → Stands (set d (a + (i - 1)) b) a x f (a + (i - 1))
+    → Stands d a (x ++ (b ∷ [])) f (a + i)
+last-first {d} {a = a} i b h l q =
+    let n : a + i ≡ a + (i - 1) + 1 = omega arith in
+    rw n (earlier (one d (a + (i - 1)) b (omega arith)) q)

@@ -42,8 +42,9 @@ pub fn bytes(buf: &mut [u8], at: usize, x: &[u8]) -> usize
 pub fn number(buf: &mut [u8], at: usize, n: u64) -> usize
     ensures { λ r. ⌜ Put (now (buf .entry)) at (decimal n) (now (buf .exit)) r ⌝ }
 {
-    if has_room(buf.len(), at, count_digits(n, 20)) {
-        return put_digits(buf, at, n, 20);
+    let k = count_digits(n, 20);
+    if has_room(buf.len(), at, k) {
+        return put_digits(buf, at, n, k);
     }
     NOWHERE
 }
@@ -63,9 +64,10 @@ pub fn signed(buf: &mut [u8], at: usize, z: i64) -> usize
 fn minus(buf: &mut [u8], at: usize, n: u64) -> usize
     ensures { λ r. ⌜ Put (now (buf .entry)) at (45 ∷ decimal n) (now (buf .exit)) r ⌝ }
 {
-    if has_room(buf.len(), at, count_digits(n, 20) + 1) {
+    let k = count_digits(n, 20);
+    if has_room(buf.len(), at, k + 1) {
         let a = put_byte(buf, at, b'-');
-        return put_digits(buf, a, n, 20);
+        return put_digits(buf, a, n, k);
     }
     NOWHERE
 }
@@ -110,19 +112,19 @@ fn count_digits(n: u64, left: usize) -> usize
     count_digits(n / 10, left - 1) + 1
 }
 
-// The decimal digits of n, of which `left` are put at most.
-fn put_digits(buf: &mut [u8], at: usize, n: u64, left: usize) -> usize
-    requires { ⌜ at + length (digits left n) ≤ length (now buf) ⌝ }
-    ensures { λ r. ⌜ Stands (now (buf .entry)) at (digits left n) (now (buf .exit)) r ⌝ }
+// The k decimal digits of n, the last one first: the count has settled their places.
+fn put_digits(buf: &mut [u8], at: usize, n: u64, k: usize) -> usize
+    requires { ⌜ (k ≡ length (decimal n)) × (at + k ≤ length (now buf)) ⌝ }
+    ensures { λ r. ⌜ Stands (now (buf .entry)) at (decimal n) (now (buf .exit)) r ⌝ }
 {
-    if left == 0 {
-        return at;
+    let mut m = n;
+    let mut i = k;
+    while i > 0 {
+        i -= 1;
+        buf[at + i] = 48 + (m % 10) as u8;
+        m /= 10;
     }
-    if n < 10 {
-        return put_byte(buf, at, digit(n));
-    }
-    let e = put_digits(buf, at, n / 10, left - 1);
-    put_byte(buf, e, digit(n % 10))
+    at + k
 }
 
 // The last digit of n to base 16.

@@ -1,17 +1,14 @@
 -- The refusal number is the first row's that applies, 1 where an input is infinite or not a number, and 6 where r×v has length 0 and
 -- the rows ahead pass; a time that is handed out is finite, and its state is the one given. Assumes nothing.
-use Prim.Native.Nat.{ℕ, zero, suc, _*_, _<_}
-use native.Mathlib.Nat.{mul-pos, zero-lt-suc}
+use Prim.Native.Nat.{ℕ, suc}
 use native.Mathlib.Omega.{arith}
-use mathlib.Core.Path.{_≡_, refl, sym, ap, _∙_, subst}
+use mathlib.Core.Path.{_≡_, refl, sym, ap, _∙_}
 use mathlib.Core.Bool.{Bool, true, false, cond, _&&_, false≢true}
 use mathlib.Core.List.{List, [], _∷_, _++_}
-use lib.Dec.{T, eqb, eqb→eq}
 use lib.Ieee as Ieee
-use lib.Ieee.{Float, nan, inf, fin, up, ofBits}
-use lib.Ieee.Fits.{up-pos}
-use Rattle.real.specs.F64.{_⊘_, _≤ᶠ_, _<ᶠ_, two^, f0, finite, sizeOf}
-use Rattle.real.proofs.Finite.{size-at-most}
+use lib.Ieee.{Float, ofBits}
+use Rattle.real.specs.F64.{_≤ᶠ_, _<ᶠ_, two^, f0, finite, sizeOf}
+use Rattle.real.proofs.Finite.{size-at-most, divided-by-zero}
 use Rattle.vector.specs.declared.State.{State}
 use Rattle.table.specs.declared.Test.{Test}
 use Rattle.table.specs.declared.Test.the-variants.{Passed, Failed}
@@ -26,7 +23,6 @@ use Rattle.rows.specs.Rows.{finiteNumber, finiteInputs, muRow, positionComponen
 use Rattle.table.proofs.Laws.{all-met, meet-both, met-left, met-right, met-then, first-row, row-then}
 use Rattle.rows.proofs.Components.{Finite, position-finite, velocity-finite}
 use Rattle.rows.proofs.Inputs.{allFinite, inputs-finite, two-more}
-use Rattle.real.proofs.Tests.{and-0}
 use Rattle.iterator.proofs.Single.{in-time-finite}
 use Rattle.reach.specs.declared.Reached.{Reached}
 use Rattle.reach.specs.declared.Reached.the-variants as R
@@ -46,25 +42,6 @@ refused : (t : Test) (x : TransferTime) (n : ℕ) → Tests.numberOf t ≡ suc n
 unfolding answered numberOf Tests.numberOf
 refused Passed x n h = absurd (omega arith)
 refused (Failed e) x n h = h
-
--- dividing by a zero gives an infinity or a NaN
-over-zero : (x y : Float) → Ieee.eq y f0 ≡ true → finite (x ⊘ y) ≡ false
-unfolding Ieee.div Ieee.eq ofBits
-over-zero nan y h = refl
-over-zero (inf s) nan h = refl
-over-zero (inf s) (inf t) h = refl
-over-zero (inf s) (fin t n d) h = refl
-over-zero (fin s m e) nan h = refl
-over-zero (fin s m e) (inf t) h = absurd (false≢true h)
-over-zero (fin s m e) (fin t zero d) h = go (eqb m 0)
-  where
-    go : (b : Bool) → finite (cond b nan (inf (Ieee.unlike s t))) ≡ false
-    go true = refl
-    go false = refl
-over-zero (fin s m e) (fin t (suc n) d) h =
-    let p : 0 < suc n * up d = mul-pos (zero-lt-suc n) (up-pos d) in
-    let q : suc n * up d * 1 ≡ 0 * Ieee.down d = eqb→eq _ _ (subst T (sym (and-0 (eqb (suc n * up d * 1) (0 * Ieee.down d)) _ h)) tt) in
-    absurd (omega arith)
 
 not-at-most : (x : Float) → finite x ≡ false → (sizeOf x ≤ᶠ two^ 5) ≡ false
 unfolding ofBits
@@ -113,7 +90,7 @@ module _ (mu : Float) (s : State) (sin cos : Float) where
   -- r×v has length 0: 6, where the rows ahead pass
   pub theta-zero : allMeet (inputRows mu s sin cos (S .r1) ++ angleRow S) ≡ true → Ieee.eq (lengthOf (crossOf (positionOf s) (velocityOf s))) f0 ≡ true → numberOf (thetaOf mu s sin cos) ≡ 6
   theta-zero g h =
-      let e : allMeet (derivedRow S) ≡ false = cot-fails S (over-zero (dotOf (positionOf s) (velocityOf s)) (lengthOf (crossOf (positionOf s) (velocityOf s))) h) in
+      let e : allMeet (derivedRow S) ≡ false = cot-fails S (divided-by-zero (dotOf (positionOf s) (velocityOf s)) (lengthOf (crossOf (positionOf s) (velocityOf s))) h) in
       refused (firstFailing tests) _ 5
       (ap Tests.numberOf (met-then (inputRows mu s sin cos (S .r1) ++ angleRow S) (derivedRow S ++ straightRow (S .pn)) g)
       ∙ row-then 6 (derivedRow S) (straightRow (S .pn)) refl

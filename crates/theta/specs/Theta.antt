@@ -14,7 +14,7 @@ use Rattle.table.specs.declared.Test.the-variants.{Passed, Failed}
 use Rattle.vector.specs.Vectors.{positionOf, velocityOf, dotOf, crossOf, lengthOf}
 use Rattle.table.specs.Tests.{entry, firstFailing}
 use Rattle.rows.specs.Rows.{finiteNumber, finiteInputs, stateRows}
-use Rattle.conic.specs.Conic.{c2Of, pOf, c2Row, pRow, pNOf, straightRow}
+use Rattle.conic.specs.Conic.{c2Of, c2Row, pRow, pNOf, straightRow}
 use Rattle.reach.specs.declared.Arc.{Arc}
 use Rattle.reach.specs.declared.Reached.{Reached}
 use Rattle.reach.specs.declared.Reached.the-variants as R

@@ -5,40 +5,28 @@ use mathlib.Core.Bool.{Bool, true, false, cond}
 use mathlib.Core.List.{List, [], _∷_, _++_}
 use lib.ListN.{length, length-append}
 use lib.Dec.{lit≤, eqb}
-use lib.IntN.{ℤ, pos, negsuc}
+use lib.IntN.{ℤ}
 use lib.Ieee.{Float}
 use Rattle.text.specs.Text.{ascii, signedText}
 use Rattle.text.specs.Pieces.{concat}
 use Rattle.text.proofs.Decimals.{at-most}
-use Rattle.text.proofs.Lays.{concat-append}
+use Rattle.text.proofs.Signs.{signed-short}
+use Rattle.text.proofs.Lays.{size, concat-append}
 use Rattle.columns.specs.Rows.{labelledPieces, endPieces}
 use Rattle.columns.proofs.RowLaws.{end-short, labelled-short}
 use Rattle.vector.specs.declared.State.{State}
 use Rattle.session.specs.declared.record.Kind.{Kind}
 use Rattle.session.specs.declared.record.Kind.the-variants as K
 use Rattle.session.specs.declared.record.Record.{Record}
-use Rattle.session.specs.Kinds.{nameOf}
 use Rattle.session.specs.Layout.{kindIn, vehicleIn, timeIn}
 use Rattle.lines.specs.Days.{localOf, dayOf, csOf}
+use Rattle.lines.proofs.Sizes.{name-short}
 use Rattle.flight.specs.declared.Flight.{Flight}
 use Rattle.replay.specs.declared.Answer.{Answer}
 use Rattle.replay.specs.declared.Answer.the-variants as A
 use Rattle.replay.specs.declared.Vehicle.{Vehicle}
 use Rattle.replay.specs.declared.Vehicle.the-variants.{Unset, Set}
 use Rattle.tracks.specs.Tracks.{headingPieces, refusedPieces, clockPieces, stampPieces, answerPieces, eventPieces, recordPieces, aboutText, flightPieces, wherePieces, vehiclePieces}
-
--- the length of pieces
-abbrev size : List (List ℕ) → ℕ
-size xs = length (concat xs)
-
-signed-short : (z : ℤ) → length (signedText z) ≤ 21
-signed-short (pos n) = omega (arith, at-most 20 n)
-signed-short (negsuc n) = omega (arith, at-most 20 (n + 1))
-
-name-short : (k : Kind) → length (nameOf k) ≤ 5
-name-short K.State = lit≤ tt
-name-short K.Burn = lit≤ tt
-name-short K.Mark = lit≤ tt
 
 pub heading-fits : size headingPieces ≤ 512
 unfolding concat headingPieces

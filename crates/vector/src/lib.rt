@@ -1,6 +1,6 @@
 // Vectors and states.
 ghost use mathlib.Core.Path.{_≡_};
-ghost use Rattle.vector.specs.Vectors.{positionOf, velocityOf, stateOf, dotOf, crossOf, lengthOf, scaledOf, sumOf, dividedOf, negatedOf};
+ghost use Rattle.vector.specs.Vectors.{positionOf, velocityOf, stateOf, dotOf, crossOf, lengthOf, scaledOf, sumOf, differenceOf, dividedOf, negatedOf};
 
 // Three numbers.
 pub struct Vector {
@@ -96,6 +96,17 @@ pub fn sum(a: Vector, b: Vector) -> Vector
         x: a.x + b.x,
         y: a.y + b.y,
         z: a.z + b.z,
+    }
+}
+
+// a − b
+pub fn difference(a: Vector, b: Vector) -> Vector
+    ensures { λ r. ⌜ r ≡ differenceOf a b ⌝ }
+{
+    Vector {
+        x: a.x - b.x,
+        y: a.y - b.y,
+        z: a.z - b.z,
     }
 }
 

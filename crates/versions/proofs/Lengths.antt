@@ -1,14 +1,13 @@
 -- Every line fits 512 bytes, and every list 16,384. Assumes nothing.
-use Prim.Native.Nat.{ℕ, zero, suc, _+_, _*_, _≤_, zero-le}
+use Prim.Native.Nat.{ℕ, zero, suc, _*_, _≤_, zero-le}
 use native.Mathlib.Omega.{arith}
-use mathlib.Core.Path.{_≡_, refl}
 use mathlib.Core.Bool.{Bool, true, false, cond}
-use mathlib.Core.List.{List, [], _∷_, _++_}
-use lib.ListN.{length, length-append}
+use mathlib.Core.List.{List, [], _∷_}
+use lib.ListN.{length-append}
 use lib.Dec.{eqb}
-use Rattle.text.specs.Text.{ascii, decimal}
+use Rattle.text.specs.Text.{ascii}
 use Rattle.text.specs.Pieces.{concat}
-use Rattle.text.proofs.Lays.{concat-append}
+use Rattle.text.proofs.Lays.{size, concat-append}
 use Rattle.text.proofs.Decimals.{at-most}
 use Rattle.columns.specs.Rows.{refusedPieces}
 use Rattle.columns.proofs.RowLaws.{end-short, labelled-short, refused-fits}
@@ -17,9 +16,6 @@ use Rattle.settings.specs.declared.Looked.{Looked}
 use Rattle.settings.specs.declared.Looked.the-variants.{Found, Refused}
 use Rattle.settings.specs.History.{lookUp}
 use Rattle.versions.specs.Versions.{constantPieces, versionPieces, lookedPieces, foundThen, linesFrom, listBy}
-
-abbrev size : List (List ℕ) → ℕ
-size xs = length (concat xs)
 
 constants-short : (x : Setting) → size (constantPieces x) ≤ 188
 unfolding constantPieces

@@ -1,22 +1,19 @@
 -- The listing, a version more each turn: what is still to be laid makes the whole. Assumes nothing.
 use Prim.Native.Nat.{ℕ, suc, _+_, _-_, _≤_, _<_}
 use native.Mathlib.Omega.{arith}
-use mathlib.Core.Path.{_≡_, refl, sym, ap, _∙_, subst}
+use mathlib.Core.Path.{_≡_, refl, sym, ap, _∙_}
 use mathlib.Core.Bool.{Bool, cond}
-use mathlib.Core.List.{List, [], _++_}
+use mathlib.Core.List.{List, []}
 use lib.ListN.{length}
 use borrow.Author.Tests.{eq-eqb, ne-eqb}
 use Rattle.text.specs.Pieces.{Laid, end}
-use Rattle.text.proofs.Lays.{and-then, laid-size}
+use Rattle.text.proofs.Lays.{and-then, laid-size, laid-as}
 use Rattle.columns.specs.Rows.{refusedPieces}
 use Rattle.settings.specs.declared.allowed.Setting.{Setting}
 use Rattle.settings.specs.declared.Looked.{Looked}
 use Rattle.settings.specs.declared.Looked.the-variants.{Found, Refused}
 use Rattle.settings.specs.History.{lookUp}
 use Rattle.versions.specs.Versions.{versionPieces, foundThen, linesFrom, listBy, listPieces}
-
-pub laid-as : {d : List ℕ} {at : ℕ} {xs ys : List (List ℕ)} {e : List ℕ} {r : ℕ} → xs ≡ ys → Laid d at xs e r → Laid d at ys e r
-laid-as {d} {at} {xs} {ys} {e} {r} p l = subst (λ (zs : List (List ℕ)). Laid d at zs e r) p l
 
 from-one : (s : List ℕ) (k : ℕ) (l : Looked) → k ≤ 64 → lookUp s k ≡ l → linesFrom (65 - k) k s ≡ foundThen l k (linesFrom (65 - (k + 1)) (k + 1) s)
 unfolding linesFrom

@@ -1,11 +1,10 @@
 -- Every line fits 512 bytes. Assumes nothing.
-use Prim.Native.Nat.{ℕ, _≤_}
+use Prim.Native.Nat.{_≤_}
 use native.Mathlib.Omega.{arith}
-use mathlib.Core.List.{List, [], _∷_}
-use lib.ListN.{length, length-append}
+use mathlib.Core.List.{[], _∷_}
+use lib.ListN.{length-append}
 use Rattle.text.specs.Text.{ascii}
-use Rattle.text.specs.Pieces.{concat}
-use Rattle.text.proofs.Lays.{concat-append}
+use Rattle.text.proofs.Lays.{size, concat-append}
 use Rattle.columns.proofs.RowLaws.{end-short, labelled-short, refused-fits}
 use Rattle.wheel.specs.declared.Direction.{Direction}
 use Rattle.wheel.specs.declared.Elevation.{Elevation}
@@ -14,9 +13,6 @@ use Rattle.sight.specs.declared.Points.{Points}
 use Rattle.sight.specs.declared.Sight.{Sight}
 use Rattle.sight.specs.declared.Sight.the-variants as S
 use Rattle.views.specs.Views.{directionPieces, pointsPieces, wheelPieces, sightPieces}
-
-abbrev size : List (List ℕ) → ℕ
-size xs = length (concat xs)
 
 direction-short : (d : Direction) → size (directionPieces d) ≤ 512
 unfolding directionPieces

@@ -1,7 +1,7 @@
 -- The law of each turn of `feed`, and that a line lies within its buffer. Assumes nothing.
 use Prim.Native.Nat.{ℕ, _≤_}
 use native.Mathlib.Omega.{arith}
-use mathlib.Core.Path.{_≡_, refl, sym, ap, _∙_}
+use mathlib.Core.Path.{_≡_, ap, _∙_}
 use mathlib.Core.List.{List, []}
 use lib.ListN.{length, drop, length-append}
 use borrow.Author.Tests.{le-ltb}

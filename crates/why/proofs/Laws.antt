@@ -1,6 +1,6 @@
 -- Why and the solve cannot disagree: the reason's number is that of the solve's own answer, for every input. Assumes nothing.
 use Prim.Native.Nat.{ℕ}
-use mathlib.Core.Path.{_≡_, refl, sym, ap, _∙_}
+use mathlib.Core.Path.{_≡_, refl, sym, _∙_}
 use mathlib.Core.Bool.{Bool, true, false, cond}
 use lib.Ieee.{Float}
 use Rattle.real.specs.F64.{sizeOf}

@@ -1,21 +1,22 @@
 -- The range test that stops a trial is true: it fails, and its number is the one that over and under give. A neighbour without a time
 -- is told to be the grid's own end exactly if it is. Assumes nothing.
 use Prim.Native.Nat.{ℕ, zero, suc}
-use native.Mathlib.Omega.{arith}
 use mathlib.Core.Path.{_≡_, refl, sym, ap, _∙_, subst}
 use mathlib.Core.Bool.{Bool, true, false, cond, not, _&&_, true≢false}
 use borrow.Author.Tests.{not-true}
 use lib.IntN.{ℤ}
 use lib.Signed.{ltZ}
 use lib.Ieee.{Float, nan, inf, fin, lt, le, eq, neg, ofBits}
+use Rattle.real.proofs.Order.{under-not, at-most-not}
+use Rattle.facts.proofs.Truth.{and-1}
+use Rattle.facts.proofs.Wholes.{zero-one}
 use Rattle.real.specs.F64.{_⊕_, _⊖_, _⊗_, _≤ᶠ_, _<ᶠ_, two^, f0, finite}
-use Rattle.real.proofs.Tests.{and-1}
 use Rattle.root.specs.Root.{rootOf}
 use Rattle.series.specs.declared.Both.{Both}
 use Rattle.series.specs.declared.Both.the-variants as B
 use Rattle.series.specs.Series.{leastXi, mostXi, inRange, pairAt, bothAnswer}
 use Rattle.table.specs.declared.Name.{Name}
-use Rattle.table.specs.declared.Name.the-variants.{W, Radicand, X, Xi, TrialTime, Den, P}
+use Rattle.table.specs.declared.Name.the-variants.{Xi, TrialTime, Den, P}
 use Rattle.table.specs.declared.Limit.{Limit}
 use Rattle.table.specs.declared.Limit.the-variants as L
 use Rattle.table.specs.declared.Entry.{Entry}
@@ -42,12 +43,8 @@ use Rattle.problem.specs.Problems.{judgeOf, startOf, heldOf}
 use Rattle.problem.specs.Stops.{rangeAt, stopBy, stopOf}
 use Rattle.problem.specs.declared.Problem.{Problem}
 use Rattle.problem.specs.declared.Problem.the-variants.{Kepler, Lambert}
-use Rattle.reason.specs.declared.Stop.{Stop}
 use Rattle.reason.specs.declared.Stop.the-variants as S
-use Rattle.why.proofs.Order.{under-not, at-most-not, out-of-time}
-
-zero-one : _≡_ {A = ℕ} 0 1 → ⊥
-zero-one z = omega arith
+use Rattle.why.proofs.Order.{out-of-time}
 
 -- it fails, and has this number
 abbrev pub Fails : ℕ → Entry → Type 0

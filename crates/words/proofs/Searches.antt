@@ -10,6 +10,7 @@ use lib.ListN.{length, getD, take, drop, length-drop, drop-of-length-le}
 use lib.Seq.{drop-cons, take-suc, take-all, getD-drop}
 use lib.Dec.{eqb}
 use borrow.Author.Tests.{eq-eqb, ne-eqb, eqb-true}
+use Rattle.facts.proofs.Truth.{each, and-1}
 use Rattle.words.specs.declared.Byte.{Byte}
 use Rattle.words.specs.declared.Byte.the-variants.{Blank, NotBlank}
 use Rattle.words.specs.Words.{isOf, upTo, from, fromWord, wordAt, startsWith, isWord}
@@ -149,24 +150,16 @@ pub starts-long : (s t : List ℕ) → startsWith s t ≡ true → length t ≤ 
 unfolding startsWith
 starts-long s [] e = zero-le
 starts-long [] (b ∷ t) e = absurd (true≢false (sym e))
-starts-long (a ∷ s) (b ∷ t) e = suc-le-suc (starts-long s t (second (eqb a b) (startsWith s t) e))
-  where
-    second : (x y : Bool) → (x && y) ≡ true → y ≡ true
-    second true y h = h
-    second false y h = absurd (true≢false (sym h))
+starts-long (a ∷ s) (b ∷ t) e = suc-le-suc (starts-long s t (and-1 (eqb a b) (startsWith s t) e))
 
 -- two words are the same where `isWord` says so
-both : (x y : Bool) → (x && y) ≡ true → (x ≡ true) × (y ≡ true)
-both true y h = (refl, h)
-both false y h = absurd (true≢false (sym h))
-
 alike : (s t : List ℕ) → length s ≡ length t → startsWith s t ≡ true → s ≡ t
 unfolding startsWith
 alike [] [] n e = refl
 alike [] (b ∷ t) n e = let z : ⊥ = omega arith in absurd z
 alike (a ∷ s) [] n e = let z : ⊥ = omega arith in absurd z
 alike (a ∷ s) (b ∷ t) n e =
-    let p = both (eqb a b) (startsWith s t) e in
+    let p = each (eqb a b) (startsWith s t) e in
     let h : a ≡ b = eqb-true a b (p .0) in
     let r : s ≡ t = alike s t (omega arith) (p .1) in
     cc
@@ -174,7 +167,7 @@ alike (a ∷ s) (b ∷ t) n e =
 pub same-word : (s t : List ℕ) → isWord s t ≡ true → s ≡ t
 unfolding isWord
 same-word s t e =
-    let p = both (eqb (length s) (length t)) (startsWith s t) e in
+    let p = each (eqb (length s) (length t)) (startsWith s t) e in
     alike s t (eqb-true (length s) (length t) (p .0)) (p .1)
 
 -- what `&s[k..]` lends

@@ -35,6 +35,10 @@ fromWord (suc k) s = from NotBlank (from Blank (fromWord k s))
 unfoldable pub wordAt : ℕ → List ℕ → List ℕ
 wordAt k s = upTo Blank (fromWord k s)
 
+-- no word stands behind the first k
+abbrev pub isEnd : ℕ → List ℕ → Bool
+isEnd k line = eqb (length (wordAt k line)) 0
+
 -- s starts with t
 unfoldable pub startsWith : List ℕ → List ℕ → Bool
 startsWith s [] = true

@@ -2,7 +2,7 @@
 ghost use Prim.Native.Nat.{_≤_};
 ghost use mathlib.Core.Path.{_≡_};
 ghost use lib.ListN.{length};
-ghost use Rattle.words.specs.Words.{isOf, wordAt, startsWith, isWord};
+ghost use Rattle.words.specs.Words.{isOf, wordAt, isEnd, startsWith, isWord};
 ghost use Rattle.words.specs.Found.{Found};
 
 // What a search looks for: a blank, any byte but a blank, the point.
@@ -72,6 +72,13 @@ pub fn word(s: &[u8], k: u64) -> &[u8]
     }
     let e = until(s, at, Byte::Blank);
     &s[at..e]
+}
+
+// Whether the line has no word behind its first k.
+pub fn is_end(line: &[u8], k: u64) -> bool
+    ensures { λ r. ⌜ r ≡ isEnd k (now (line .entry)) ⌝ }
+{
+    word(line, k).len() == 0
 }
 
 // Whether s starts with t.

@@ -4,7 +4,6 @@ use mathlib.Core.Path.{_≡_}
 use mathlib.Core.List.{List}
 use lib.ListN.{length, take}
 use Rattle.split.specs.Split.{Rows, rowsFrom}
-use Rattle.book.specs.declared.Turn.{Turn}
 use Rattle.book.specs.declared.Turn.the-variants.{Going}
 use Rattle.book.specs.Book.{turnsOf, writtenBy}
 use Rattle.write.specs.declared.Taken.{Taken}

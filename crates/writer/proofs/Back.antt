@@ -10,10 +10,10 @@ use lib.Seq.{length-take-le, drop-at, drop-drop}
 use lib.Dec.{leb}
 use lib.IntN.{ℤ}
 use borrow.Author.Tests.{leb-true, le-leb}
+use Rattle.facts.proofs.Truth.{each}
 use Rattle.session.specs.declared.record.Record.{Record}
 use Rattle.session.specs.declared.record.Decoded.the-variants.{Whole}
 use Rattle.session.specs.declared.Place.{Place}
-use Rattle.session.specs.declared.Reading.{Reading}
 use Rattle.session.specs.declared.Reading.the-variants as A
 use Rattle.session.specs.Limits.{offsetAllowed}
 use Rattle.session.specs.Kinds.{lengthOf}
@@ -21,7 +21,6 @@ use Rattle.session.specs.Layout.{kindIn, bytesOf}
 use Rattle.session.specs.Decode.{allowedIn, decodeOf, Held}
 use Rattle.session.specs.Read.{readAt}
 use Rattle.field.proofs.Bytes.{Bytes, bytes-drop}
-use Rattle.session.proofs.Numbers.{both}
 use Rattle.session.proofs.Table.{long}
 use Rattle.session.proofs.Heads.{whole-fits}
 use Rattle.session.proofs.ReadBack.{read-back, bytes-of-length}
@@ -36,7 +35,7 @@ use Rattle.writer.proofs.Cases.{stood}
 
 module _ (d : List ℕ) (at : ℕ) (r : Record) (allow : allowedIn r ≡ true) (room : hasRoom at (lengthOf (kindIn r)) (length d) ≡ true) where
   inside : behind at r ≤ length d
-  inside = leb-true (behind at r) (length d) (both (leb (behind at r) (length d)) (leb (behind at r) 65536) room .0)
+  inside = leb-true (behind at r) (length d) (each (leb (behind at r) (length d)) (leb (behind at r) 65536) room .0)
 
   -- the session up to the place behind the record
   used : take (behind at r) (bufferOf d at r) ≡ take at d ++ bytesOf r
@@ -53,7 +52,7 @@ module _ (d : List ℕ) (at : ℕ) (r : Record) (allow : allowedIn r ≡ true) (
       let l : length s ≡ behind at r = length-append (take at d) (bytesOf r) ∙ omega (arith, t, bytes-of-length r) in
       let e : drop at s ≡ bytesOf r = drop-at (take at d) (bytesOf r) at t in
       let w : decodeOf (drop at s) ≡ Whole r (lengthOf (kindIn r)) = ap decodeOf (e ∙ sym (append-nil (bytesOf r))) ∙ read-back r [] h allow in
-      let b = leb-true (behind at r) 65536 (both (leb (behind at r) (length d)) (leb (behind at r) 65536) room .1) in
+      let b = leb-true (behind at r) 65536 (each (leb (behind at r) (length d)) (leb (behind at r) 65536) room .1) in
       reads s (record { at = at; offset = o }) r (lengthOf (kindIn r)) (omega (arith, l, b)) a (omega (arith, l, long (kindIn r))) w
 
   -- a record that is written is read

@@ -1,5 +1,5 @@
 -- Laws of bytes that are put. Assumes nothing.
-use Prim.Native.Nat.{ℕ, zero, suc, _+_, _-_, _/_, _%_, _<_}
+use Prim.Native.Nat.{ℕ, _-_, _%_, _<_}
 use native.Mathlib.Omega.{arith}
 use mathlib.Core.Path.{_≡_, refl, sym, ap, _∙_}
 use mathlib.Core.List.{List, [], _∷_, _++_, append-assoc, append-nil}
@@ -9,6 +9,7 @@ use lib.Dec.{leb}
 use lib.IntN.{ℤ, pos, negsuc}
 use lib.Signed.{mag}
 use lib.Ieee.{Float, binary64, toBits}
+use Rattle.facts.proofs.Truth.{each}
 use Rattle.real.specs.F64.{finite}
 use Rattle.session.specs.declared.record.Record.{Record}
 use Rattle.session.specs.declared.record.Record.the-variants as R
@@ -18,25 +19,8 @@ use Rattle.session.specs.Kinds.{numberOf, lengthOf, topOf}
 use Rattle.session.specs.Layout.{kindIn, vehicleIn, byteIn, timeIn, numbersIn, allFinite, numberBytes, bytesOf}
 use Rattle.session.specs.Offset.{offsetBytes}
 use Rattle.session.specs.Decode.{allowedIn}
-use Rattle.session.proofs.Numbers.{both}
 use Rattle.text.specs.Sign.{negative}
 use Rattle.writer.specs.Write.{restBytes}
-
-pub bytes-none : (w n : ℕ) → w ≡ 0 → bytesLe w n ≡ []
-unfolding bytesLe
-bytes-none w n e = rw e refl
-
-pub bytes-more : (w n : ℕ) → (w ≡ 0 → ⊥) → bytesLe w n ≡ (n % 256) ∷ bytesLe (w - 1) (n / 256)
-unfolding bytesLe
-bytes-more zero n z = absurd (z refl)
-bytes-more (suc w) n z =
-    let e : w ≡ suc w - 1 = omega arith in
-    ap (λ (k : ℕ). (n % 256) ∷ bytesLe k (n / 256)) e
-
--- one byte
-pub byte-own : (n : ℕ) → n < 256 → bytesLe 1 n ≡ n ∷ []
-unfolding bytesLe
-byte-own n h = let e : n % 256 ≡ n = omega arith in ap (λ (k : ℕ). k ∷ []) e
 
 -- the bits of numbers, one behind the other
 abbrev pub eight : Float → List ℕ
@@ -57,10 +41,6 @@ more-numbers [] ys = refl
 more-numbers (x ∷ xs) ys = ap (λ (l : List ℕ). eight x ++ l) (more-numbers xs ys) ∙ sym (append-assoc (eight x) (numberBytes xs) (numberBytes ys))
 
 -- tests
-pub and-true : (a : Bool) → a && true ≡ a
-and-true true = refl
-and-true false = refl
-
 and-assoc : (a b c : Bool) → a && (b && c) ≡ a && b && c
 and-assoc true b c = refl
 and-assoc false b c = refl
@@ -84,15 +64,6 @@ allowed-by r {v} {b} {t} {f} a c d e =
     ∙ ap (λ (x : Bool). v && b && x && allFinite (numbersIn r)) d
     ∙ ap (λ (x : Bool). v && b && t && x) e
 
--- the bits of each half of the signed numbers
-pub bits-neg : (z : ℤ) → negative z ≡ true → 18446744073709551615 - mag z ≡ bitsOf z
-bits-neg (pos n) h = absurd (true≢false (sym h))
-bits-neg (negsuc n) h = omega arith
-
-pub bits-pos : (z : ℤ) → negative z ≡ false → mag z ≡ bitsOf z
-bits-pos (pos n) h = refl
-bits-pos (negsuc n) h = absurd (true≢false h)
-
 -- the last 16 of the 64 bits of a small number
 pub short-own : (z : ℤ) → mag z < 32768 → bitsOf z % 65536 ≡ shortBits z
 short-own (pos n) h = omega arith
@@ -107,22 +78,8 @@ pub offset-length : (z : ℤ) → length (offsetBytes z) ≡ 8
 unfolding bytesLe
 offset-length z = refl
 
--- each of the numbers
-pub two-each : (x y : Float) → allFinite (x ∷ y ∷ []) ≡ true → (finite x ≡ true) × (finite y ≡ true)
-unfolding allFinite
-two-each x y h =
-    let a = both (finite x) (finite y && true) h in
-    (a .0, both (finite y) true (a .1) .0)
-
-pub three-each : (x y z : Float) → allFinite (x ∷ y ∷ z ∷ []) ≡ true → (finite x ≡ true) × (finite y ≡ true) × (finite z ≡ true)
-unfolding allFinite
-three-each x y z h =
-    let a = both (finite x) (finite y && (finite z && true)) h in
-    let b = both (finite y) (finite z && true) (a .1) in
-    (a .0, b .0, both (finite z) true (b .1) .0)
-
 pub allowed-finite : (r : Record) → allowedIn r ≡ true → allFinite (numbersIn r) ≡ true
-allowed-finite r h = both (leb (vehicleIn r) 1 && leb (byteIn r) (topOf (kindIn r)) && timeAllowed (timeIn r)) (allFinite (numbersIn r)) h .1
+allowed-finite r h = each (leb (vehicleIn r) 1 && leb (byteIn r) (topOf (kindIn r)) && timeAllowed (timeIn r)) (allFinite (numbersIn r)) h .1
 
 -- the bytes of a record, from those of its header's parts
 pub rest-length : (k v b t : ℕ) → length (restBytes k v b t) ≡ 12

@@ -10,6 +10,8 @@ use lib.IntN.{ℤ}
 use mir.Syntax.{w16}
 use mir.Val.{SFits}
 use borrow.Author.Tests.{leb-true, le-leb, le-ltb, ltb-false, eqb-true, eq-eqb}
+use Rattle.facts.proofs.Truth.{each}
+use Rattle.session.proofs.Progress.{passes}
 use Rattle.session.specs.declared.record.Decoded.{Decoded}
 use Rattle.session.specs.declared.record.Decoded.the-variants as D
 use Rattle.session.specs.declared.Place.{Place}
@@ -19,7 +21,6 @@ use Rattle.session.specs.Limits.{offsetAllowed}
 use Rattle.session.specs.Offset.{decodeAt, offsetBytes}
 use Rattle.session.specs.Read.{start, placed, readAt}
 use Rattle.field.proofs.Bytes.{Bytes, bytes-drop}
-use Rattle.session.proofs.Numbers.{both}
 use Rattle.session.proofs.Offsets.{at-offset}
 use Rattle.session.proofs.OffsetBack.{offset-read-back, offset-write-back}
 use Rattle.text.specs.Text.{Stands}
@@ -29,15 +30,11 @@ use Rattle.writer.specs.Write.{hasRoom, offsetMay, offsetWritten, offset
 use Rattle.writer.proofs.Laws.{offset-length}
 use Rattle.writer.proofs.Cases.{stood}
 
-passes : (a b c d : Bool) (t p : Place) (x : Reading) → a ≡ false → b ≡ true → c ≡ false → d ≡ false
-    → cond a (A.Refused 12 t) (cond (not b) (A.Refused 14 p) (cond c (A.Refused 11 p) (cond d A.End x))) ≡ x
-passes a b c d t p x h i j k = rw (h, i, j, k) refl
-
 module _ (d : List ℕ) (z : ℤ) (allow : offsetAllowed z ≡ true) (room : hasRoom 0 8 (length d) ≡ true) where
   -- the session up to the place behind the record
   used : take 8 (offsetBuffer d 0 z) ≡ offsetBytes z
   used =
-      let h : 8 ≤ length d = leb-true 8 (length d) (both (leb 8 (length d)) (leb 8 65536) room .0) in
+      let h : 8 ≤ length d = leb-true 8 (length d) (each (leb 8 (length d)) (leb 8 65536) room .0) in
       let s : Stands d 0 (offsetBytes z) (offsetBuffer d 0 z) 8 =
       record { next = omega (arith, offset-length z); within = h; whole = sym (stood (offsetMay 0 z) d 0 8 (offsetBytes z) allow room .1) } in
       before-place s

@@ -1,7 +1,6 @@
 // The numbers of a record: their test, and the payload.
 ghost use Prim.Native.Nat.{_+_, _*_, _≤_};
 ghost use mathlib.Core.Path.{_≡_};
-ghost use mathlib.Core.Bool.{true};
 ghost use mathlib.Core.List.{[], _∷_};
 ghost use lib.ListN.{length};
 ghost use Rattle.session.specs.Kinds.{countOf};
@@ -49,7 +48,7 @@ pub fn are_finite(r: Record) -> bool
 }
 
 fn put_three(p: &mut [u8], o: usize, x: f64, y: f64, z: f64) -> usize
-    requires { ⌜ (o + 24 ≤ length (now p)) × (allFinite (x ∷ y ∷ z ∷ []) ≡ true) ⌝ }
+    requires { ⌜ o + 24 ≤ length (now p) ⌝ }
     ensures { λ r. ⌜ Stands (now (p .entry)) o (numberBytes (x ∷ y ∷ z ∷ [])) (now (p .exit)) r ⌝ }
 {
     let a = put_number(p, o, x);
@@ -59,7 +58,7 @@ fn put_three(p: &mut [u8], o: usize, x: f64, y: f64, z: f64) -> usize
 
 // The payload of a record, at the front of the part that is lent for it.
 pub fn put_numbers(p: &mut [u8], r: Record) -> usize
-    requires { ⌜ (8 * countOf (kindIn r) ≤ length (now p)) × (allFinite (numbersIn r) ≡ true) ⌝ }
+    requires { ⌜ 8 * countOf (kindIn r) ≤ length (now p) ⌝ }
     ensures { λ n. ⌜ Stands (now (p .entry)) 0 (numberBytes (numbersIn r)) (now (p .exit)) n ⌝ }
 {
     match r {

@@ -1,7 +1,6 @@
 // A record written: its tests, its header from the kind on, its payload behind the header, and its length last.
 ghost use Prim.Native.Nat.{_+_, _≤_};
 ghost use mathlib.Core.Path.{_≡_};
-ghost use mathlib.Core.Bool.{true};
 ghost use lib.ListN.{length};
 ghost use Rattle.session.specs.Kinds.{numberOf, lengthOf};
 ghost use Rattle.session.specs.Layout.{kindIn, vehicleIn, byteIn, timeIn, bytesOf};
@@ -10,7 +9,6 @@ ghost use Rattle.text.specs.Text.{Stands};
 ghost use Rattle.writer.specs.Write.{hasRoom, restBytes, writtenOf, bufferOf};
 use crate::numbers::are_finite;
 use crate::numbers::put_numbers;
-use crate::put::bits_of;
 use crate::put::put_field;
 use session::Record;
 use session::time_allowed;
@@ -99,12 +97,12 @@ fn put_rest(buf: &mut [u8], at: usize, number: u64, vehicle: u8, byte: u8, time:
 }
 
 fn put_record(buf: &mut [u8], at: usize, r: Record) -> usize
-    requires { ⌜ (at + lengthOf (kindIn r) ≤ length (now buf)) × (allowedIn r ≡ true) ⌝ }
+    requires { ⌜ at + lengthOf (kindIn r) ≤ length (now buf) ⌝ }
     ensures { λ n. ⌜ Stands (now (buf .entry)) at (bytesOf r) (now (buf .exit)) n ⌝ }
 {
     let h = header_of(r);
     let n = h.length;
-    let time = bits_of(h.time);
+    let time = field::bits_of(h.time);
     let c = put_rest(buf, at + 2, h.number, h.vehicle, h.byte, time);
     put_numbers(&mut buf[c..], r);
     put_field(buf, at, n as u64, 2);

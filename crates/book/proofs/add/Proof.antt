@@ -1,6 +1,6 @@
 -- The line entered, and counted. Assumes nothing.
 use Prim.Native.Nat.{ℕ}
-use mathlib.Core.Path.{_≡_, refl, sym, ap, _∙_}
+use mathlib.Core.Path.{ap, _∙_}
 use denote.Ref.{now}
 use Rattle.entry.specs.Entries.{entryOf}
 use Rattle.enter.specs.Enter.{enteredOf}

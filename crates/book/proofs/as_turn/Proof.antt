@@ -1,5 +1,5 @@
 -- By the case. Assumes nothing.
-use mathlib.Core.Path.{_≡_, refl, sym, ap, _∙_}
+use mathlib.Core.Path.{refl}
 use borrow.Author.Needs.{needs}
 use Rattle.book.proofs.as_turn.Statement.{statement}
 use Rattle.book.proofs.as_turn.Tie as tie

@@ -1,5 +1,5 @@
 -- By the test. Assumes nothing.
-use mathlib.Core.Path.{_≡_, refl, sym, ap, _∙_}
+use mathlib.Core.Path.{refl}
 use borrow.Author.Tests.{lt-ltb, le-ltb}
 use Rattle.book.specs.Book.{oneMore}
 use borrow.Author.Needs.{needs}

@@ -1,10 +1,9 @@
 -- `burn::changed` meets its contract. Assumes nothing.
 use mathlib.Core.Path.{ap, _∙_}
 use Rattle.vector.specs.declared.Vector.{Vector}
-use Rattle.vector.specs.Vectors.{positionOf, stateOf}
+use Rattle.vector.specs.Vectors.{positionOf, stateOf, differenceOf}
 use Rattle.apsides.specs.declared.Apsides.{Apsides}
 use Rattle.apsides.specs.Apsides.{apsidesOf}
-use Rattle.coelliptic.specs.Coelliptic.{differenceOf}
 use Rattle.burn.specs.Burn.{judgedOf, changedOf}
 use borrow.Author.Needs.{needs}
 use Rattle.burn.proofs.changed.Statement.{statement}

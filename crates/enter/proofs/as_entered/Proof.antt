@@ -1,5 +1,5 @@
 -- By the case. Assumes nothing.
-use mathlib.Core.Path.{_≡_, refl, sym, ap, _∙_}
+use mathlib.Core.Path.{refl}
 use borrow.Author.Needs.{needs}
 use Rattle.enter.proofs.as_entered.Statement.{statement}
 use Rattle.enter.proofs.as_entered.Tie as tie

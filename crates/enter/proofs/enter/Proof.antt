@@ -1,5 +1,5 @@
 -- What the line says, entered. Assumes nothing.
-use mathlib.Core.Path.{_≡_, refl, sym, ap, _∙_}
+use mathlib.Core.Path.{ap, _∙_}
 use denote.Ref.{now}
 use Rattle.enter.specs.Enter.{enteredOf, sessionOf}
 use borrow.Author.Needs.{needs}

@@ -1,5 +1,5 @@
 -- By what is said; each record's own writing. Assumes nothing.
-use mathlib.Core.Path.{_≡_, refl, sym, ap, _∙_}
+use mathlib.Core.Path.{sym, ap, _∙_}
 use mir.Syntax.{w64}
 use mir.Facts.{toZ-ofZ}
 use denote.Ref.{now}

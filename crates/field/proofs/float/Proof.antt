@@ -1,6 +1,6 @@
 -- A NaN's pattern is told by its size without the sign. Assumes nothing.
 use borrow.Author.Needs.{needs}
-use Rattle.field.proofs.Patterns.{nan-bits, no-nan-bits}
+use Rattle.real.proofs.Patterns.{nan-bits, no-nan-bits}
 use Rattle.field.proofs.float.Statement.{statement}
 use Rattle.field.proofs.float.Tie as tie
 

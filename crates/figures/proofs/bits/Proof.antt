@@ -5,9 +5,10 @@ use lib.Seq.{length-take-le}
 use lib.Dec.{lit≤}
 use lib.Ieee.{fits}
 use borrow.Author.Needs.{needs}
+use Rattle.real.proofs.Patterns.{not-nan}
 use Rattle.text.proofs.Stand.{then, same-size}
 use Rattle.figures.proofs.Places.{front}
-use Rattle.figures.proofs.Sizes.{not-nan, bits-nan, bits-else}
+use Rattle.figures.proofs.Sizes.{bits-nan, bits-else}
 use Rattle.figures.proofs.bits.Statement.{statement}
 use Rattle.figures.proofs.bits.Tie as tie
 

@@ -6,10 +6,11 @@ use lib.Dec.{T}
 use lib.Ieee.{binary64, ofBits, toBits}
 use lib.Ieee.Bits.{ofBits-toBits}
 use borrow.Author.Needs.{needs}
+use Rattle.real.proofs.Patterns.{not-nan}
 use Rattle.figures.specs.Figures.{fixedOf}
 use Rattle.text.proofs.Stand.{same-size}
 use Rattle.figures.proofs.Places.{front}
-use Rattle.figures.proofs.Sizes.{small, large, not-nan, fixed-nan}
+use Rattle.figures.proofs.Sizes.{small, large, fixed-nan}
 use Rattle.figures.proofs.fixed.Statement.{statement}
 use Rattle.figures.proofs.fixed.Tie as tie
 

@@ -2,8 +2,8 @@
 use mathlib.Core.Path.{ap, _∙_}
 use lib.Ieee.{Float, binary64, sub}
 use Rattle.vector.specs.declared.Vector.{Vector}
-use Rattle.vector.specs.Vectors.{positionOf, lengthOf}
-use Rattle.flight.specs.Flight.{differenceOf, offOf}
+use Rattle.vector.specs.Vectors.{positionOf, lengthOf, differenceOf}
+use Rattle.flight.specs.Flight.{offOf}
 use borrow.Author.Needs.{needs}
 use Rattle.flight.proofs.off.Statement.{statement}
 use Rattle.flight.proofs.off.Tie as tie

@@ -1,14 +1,11 @@
 -- There, or not. Assumes nothing.
-use mathlib.Core.Path.{_≡_, refl, sym, _∙_}
+use mathlib.Core.Path.{sym, _∙_}
 use lib.ListN.{List·getD-eq-default}
-use lib.Ieee.{nan, binary64, div, ofBits, ofFields, odd}
+use lib.Ieee.{nan}
 use borrow.Author.Needs.{needs}
+use Rattle.real.proofs.Patterns.{quiet}
 use Rattle.lent.proofs.number_at.Statement.{statement}
 use Rattle.lent.proofs.number_at.Tie as tie
-
-quiet : div binary64 (ofBits binary64 0) (ofBits binary64 0) ≡ nan
-unfolding div ofBits ofFields odd
-quiet = refl
 
 mul-result : tie.Need-mul-result
 mul-result c = search needs

@@ -1,7 +1,8 @@
 -- A NaN by its one pattern; else the bits as they are shown everywhere. Assumes nothing.
 use borrow.Author.Needs.{needs}
-use mathlib.Core.Path.{sym, _∙_}
-use Rattle.figures.proofs.Sizes.{not-nan, bits-else}
+use mathlib.Core.Path.{sym}
+use Rattle.real.proofs.Patterns.{not-nan}
+use Rattle.figures.proofs.Sizes.{bits-else}
 use Rattle.limits.specs.Limits.{exactOf}
 use Rattle.limits.proofs.Bounds.{exact-nan}
 use Rattle.limits.proofs.exact.Statement.{statement}

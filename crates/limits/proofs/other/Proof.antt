@@ -1,8 +1,8 @@
 -- A NaN; a power of two by its bits; any other number. Assumes nothing.
 use borrow.Author.Needs.{needs}
 use mathlib.Core.Path.{sym, _∙_}
+use Rattle.real.proofs.Patterns.{not-nan}
 use Rattle.text.proofs.Lays.{one}
-use Rattle.figures.proofs.Sizes.{not-nan}
 use Rattle.limits.specs.Limits.{otherPieces}
 use Rattle.limits.proofs.Bounds.{other-nan}
 use Rattle.limits.proofs.other.Statement.{statement}

@@ -1,5 +1,5 @@
 -- The names in their order. Assumes nothing.
-use mathlib.Core.Path.{_≡_, refl, sym, _∙_}
+use mathlib.Core.Path.{refl, sym, _∙_}
 use Rattle.orders.specs.Orders.{orderBy}
 use borrow.Author.Needs.{needs}
 use Rattle.orders.proofs.named.Statement.{statement}

@@ -1,6 +1,6 @@
 -- By the body read. Assumes nothing.
 use Prim.Native.Nat.{ℕ}
-use mathlib.Core.Path.{_≡_, sym, ap, _∙_}
+use mathlib.Core.Path.{sym, ap, _∙_}
 use denote.Ref.{now}
 use Rattle.numerals.specs.Numbers.{wholeOf}
 use Rattle.numerals.specs.declared.digits.Whole.{Whole}

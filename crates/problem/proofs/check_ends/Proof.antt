@@ -1,5 +1,4 @@
 -- `problem::check_ends` meets its contract: the tests, one after the other. Assumes nothing.
-use mathlib.Core.Path.{_≡_, sym, ap, _∙_}
 use borrow.Author.Needs.{needs, sfits-of}
 use mir.Syntax.{w64}
 use mir.Facts.{toZ-ofZ}

@@ -1,9 +1,6 @@
 -- `problem::placed` meets its contract: the tests, one after the other. Assumes nothing.
 use borrow.Author.Needs.{needs}
-use mathlib.Core.Path.{_≡_, sym, ap, _∙_}
-use lib.Signed.{ltZ}
 use mir.Facts.{toZ-ofZ}
-use Rattle.iterator.proofs.Grids.{ends-back}
 use Rattle.problem.proofs.placed.Statement.{statement}
 use Rattle.problem.proofs.placed.Tie as tie
 

@@ -6,9 +6,7 @@ use lib.Signed.{ltZ}
 use mir.Syntax.{w64}
 use mir.Val.{toZ, ofZ}
 use mir.Facts.{toZ-ofZ}
-use Rattle.iterator.specs.declared.Bracket.{Bracket}
 use Rattle.problem.proofs.Starts.{read-lo, read-hi}
-use Rattle.table.specs.declared.Test.{Test}
 use Rattle.problem.specs.Problems.{startOf}
 use Rattle.problem.specs.Stops.{rangeAt, stopBy, stopOf}
 use Rattle.problem.proofs.stop_at.Statement.{statement}

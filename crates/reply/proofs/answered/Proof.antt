@@ -3,12 +3,12 @@ use mathlib.Core.Path.{sym, ap, _∙_}
 use mir.Syntax.{w64}
 use mir.Facts.{toZ-ofZ}
 use borrow.Author.Needs.{needs}
+use Rattle.text.proofs.Lays.{laid-as}
 use Rattle.text.specs.Pieces.{end}
 use Rattle.answers.specs.Answers.{answerPieces, triedPieces}
 use Rattle.changes.specs.Changes.{burnPieces}
 use Rattle.reply.specs.Replies.{replyOf}
 use Rattle.reasons.specs.Lines.{reasonPieces}
-use Rattle.reply.proofs.Fits.{laid-as}
 use Rattle.reply.proofs.answered.Statement.{statement}
 use Rattle.reply.proofs.answered.Tie as tie
 

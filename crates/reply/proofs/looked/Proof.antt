@@ -1,8 +1,8 @@
 -- By the request; each arm is its routine's own answer. Assumes nothing.
 use mathlib.Core.Path.{sym, ap, _∙_}
+use Rattle.text.proofs.Lays.{laid-as}
 use Rattle.views.specs.Views.{wheelPieces, sightPieces}
 use Rattle.reply.specs.Replies.{lookedOf}
-use Rattle.reply.proofs.Fits.{laid-as}
 use borrow.Author.Needs.{needs}
 use Rattle.reply.proofs.looked.Statement.{statement}
 use Rattle.reply.proofs.looked.Tie as tie

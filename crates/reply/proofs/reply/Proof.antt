@@ -2,10 +2,10 @@
 use mathlib.Core.Path.{ap}
 use denote.Ref.{now}
 use Rattle.requests.specs.Requests.{requestOf}
-use Rattle.text.proofs.Lays.{all-fit}
+use Rattle.text.proofs.Lays.{all-fit, laid-as}
 use Rattle.text.proofs.Fronts.{too-short, in-front}
 use Rattle.reply.specs.Replies.{room, replyOf}
-use Rattle.reply.proofs.Fits.{reply-fits, laid-as}
+use Rattle.reply.proofs.Fits.{reply-fits}
 use borrow.Author.Needs.{needs}
 use Rattle.reply.proofs.reply.Statement.{statement}
 use Rattle.reply.proofs.reply.Tie as tie

@@ -1,13 +1,12 @@
 -- The room, tested once; all lines fit it. Assumes nothing.
-use Prim.Native.Nat.{ℕ}
 use native.Mathlib.Omega.{arith}
-use mathlib.Core.Path.{_≡_, refl, sym, ap, _∙_}
+use mathlib.Core.Path.{refl, ap, _∙_}
 use denote.Ref.{now}
 use borrow.Author.Tests.{lt-ltb, le-ltb}
 use Rattle.session.specs.Read.{readAt}
 use Rattle.text.proofs.Stand.{at-front}
 use Rattle.text.proofs.Lays.{all-fit}
-use Rattle.script.specs.Script.{room, shownAs}
+use Rattle.script.specs.Script.{shownAs}
 use Rattle.script.proofs.Lengths.{all-fit-room}
 use borrow.Author.Needs.{needs}
 use Rattle.script.proofs.show_at.Statement.{statement}

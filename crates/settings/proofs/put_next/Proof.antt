@@ -1,7 +1,7 @@
 -- A version that has room stands behind the used part. Assumes nothing.
 use Prim.Native.Nat.{ℕ, _+_, _/_}
 use native.Mathlib.Omega.{arith}
-use mathlib.Core.Path.{_≡_, refl, ap, _∙_}
+use mathlib.Core.Path.{refl, ap, _∙_}
 use mathlib.Core.List.{_++_}
 use lib.ListN.{take, drop}
 use denote.Ref.{now}

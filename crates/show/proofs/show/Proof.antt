@@ -1,7 +1,7 @@
 -- Each record is further on than the one before it. Assumes nothing.
 use Prim.Native.Nat.{ℕ, _-_}
 use native.Mathlib.Omega.{arith}
-use mathlib.Core.Path.{_≡_, refl, sym, _∙_}
+use mathlib.Core.Path.{refl, sym, _∙_, _≡_}
 use lib.ListN.{length}
 use borrow.Author.Needs.{needs}
 use Rattle.script.proofs.Steps.{goes-on, last-inside}

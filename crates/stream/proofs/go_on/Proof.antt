@@ -4,14 +4,13 @@ use mir.Val.{SFits}
 use mir.Facts.{toZ-ofZ}
 use Prim.Native.Nat.{_+_, _-_}
 use native.Mathlib.Omega.{arith}
-use mathlib.Core.Path.{_≡_, refl, sym, ap, _∙_}
+use mathlib.Core.Path.{_≡_, sym, ap, _∙_}
 use lib.ListN.{take}
 use lib.Seq.{length-take-le}
 use lib.Dec.{eqb}
 use lib.IntN.{ℤ}
 use denote.Ref.{now}
 use Rattle.session.specs.declared.record.Decoded.the-variants as D
-use Rattle.session.specs.declared.Place.{Place}
 use Rattle.session.proofs.Limits.{offset-small}
 use Rattle.session.proofs.Offsets.{at-offset}
 use Rattle.session.proofs.Refusals.{decode-number}

@@ -1,12 +1,11 @@
 -- By the tests. Assumes nothing.
 use Prim.Native.Nat.{ℕ, _+_, _-_, _≤_}
 use native.Mathlib.Omega.{arith}
-use mathlib.Core.Path.{_≡_, refl, sym, _∙_}
+use mathlib.Core.Path.{_≡_, refl, sym}
 use mathlib.Core.Bool.{Bool, true, false}
 use lib.Dec.{ltb}
 use borrow.Author.Tests.{lt-ltb, le-ltb, ltb-true, ltb-false}
 use Rattle.stream.specs.Stream.{limit}
-use borrow.Author.Needs.{needs}
 use Rattle.stream.proofs.passes.Statement.{statement}
 use Rattle.stream.proofs.passes.Tie as tie
 

@@ -3,7 +3,8 @@ use Prim.Native.Nat.{ℕ, _-_, _/_, _<_}
 use native.Mathlib.Omega.{arith}
 use mathlib.Core.Path.{sym, ap}
 use lib.ListN.{length}
-use Rattle.text.proofs.Decimals.{nonzero, at-most, digits-none, digits-one, digits-longer}
+use Rattle.facts.proofs.Wholes.{nonzero}
+use Rattle.text.proofs.Decimals.{at-most, digits-none, digits-one, digits-longer}
 use borrow.Fn.Kinds.{In}
 use borrow.Fn.PlainCycle.{Measures, is, falls, and}
 use Rattle.text.proofs.count_digits.Reads as count-digits

@@ -1,8 +1,9 @@
 -- The cases of the listing. Assumes nothing.
 use denote.Ref.{now}
 use mathlib.Core.Path.{sym, _∙_}
+use Rattle.text.proofs.Lays.{laid-as}
 use Rattle.text.specs.Pieces.{end}
-use Rattle.versions.proofs.Lists.{laid-as, list-lines, list-none, list-refused}
+use Rattle.versions.proofs.Lists.{list-lines, list-none, list-refused}
 use borrow.Author.Needs.{needs}
 use Rattle.versions.proofs.listed.Statement.{statement}
 use Rattle.versions.proofs.listed.Tie as tie

@@ -1,12 +1,11 @@
 -- The room, tested once; every line fits it. Assumes nothing.
 use mathlib.Core.Path.{ap}
 use denote.Ref.{now}
-use Rattle.text.proofs.Lays.{all-fit}
+use Rattle.text.proofs.Lays.{all-fit, laid-as}
 use Rattle.text.proofs.Fronts.{too-short, in-front}
 use Rattle.settings.specs.History.{lookUp}
 use Rattle.versions.specs.Versions.{showRoom, lookedPieces}
 use Rattle.versions.proofs.Lengths.{looked-fits}
-use Rattle.versions.proofs.Lists.{laid-as}
 use borrow.Author.Needs.{needs}
 use Rattle.versions.proofs.show.Statement.{statement}
 use Rattle.versions.proofs.show.Tie as tie

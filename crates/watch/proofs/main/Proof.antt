@@ -1,7 +1,7 @@
 -- `main`: the room keeps its size; the turns fall. Assumes nothing.
 use Prim.Native.Nat.{ℕ}
 use native.Mathlib.Omega.{arith}
-use mathlib.Core.Path.{_≡_, refl, sym, _∙_}
+use mathlib.Core.Path.{refl, sym, _∙_, _≡_}
 use lib.ListN.{length}
 use borrow.Author.Needs.{needs}
 use Rattle.watch.proofs.main.Statement.{statement}

@@ -1,10 +1,10 @@
 -- `why::advance` meets its contract: case by case; the bracket is sound. Assumes nothing.
 use borrow.Author.Needs.{needs}
-use mathlib.Core.Path.{_≡_, sym, ap, _∙_}
+use mathlib.Core.Path.{sym, ap, _∙_}
 use Rattle.vector.specs.declared.State.{State}
 use Rattle.iterator.proofs.Single.{sound-of, more-is}
 use Rattle.kepler.specs.declared.Motion.{Motion}
-use Rattle.kepler.specs.Kepler.{turnedOf, motionOf}
+use Rattle.kepler.specs.Kepler.{motionOf}
 use Rattle.problem.specs.declared.Problem.the-variants.{Kepler}
 use Rattle.solve.specs.Ends.{motionFor, turnsFor}
 use Rattle.solve.proofs.Sounds.{kepler-sound}

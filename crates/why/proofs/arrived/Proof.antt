@@ -1,7 +1,6 @@
 -- `why::arrived` meets its contract: case by case. Assumes nothing.
 use mathlib.Core.Path.{_≡_, sym, ap, _∙_}
 use borrow.Author.Needs.{needs, sfits-of}
-use lib.IntN.{ℤ}
 use mir.Facts.{toZ-ofZ}
 use mir.Syntax.{w64}
 use Rattle.kepler.specs.Kepler.{arrivalOf}

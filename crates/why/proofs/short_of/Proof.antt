@@ -5,7 +5,6 @@ use mir.Facts.{toZ-ofZ}
 use mir.Syntax.{w64}
 use Rattle.problem.specs.Stops.{stopOf}
 use Rattle.problem.specs.declared.Problem.{Problem}
-use Rattle.reason.specs.declared.Stop.{Stop}
 use Rattle.reason.specs.declared.Reason.the-variants as R
 use Rattle.why.specs.Why.{shortBy}
 use Rattle.why.proofs.short_of.Statement.{statement}

@@ -18,9 +18,8 @@ use Rattle.iterator.proofs.Grids.{ends-back}
 use Rattle.problem.specs.Stops.{stopOf}
 use Rattle.problem.specs.declared.Problem.{Problem}
 use Rattle.reason.specs.declared.Stop.{Stop}
-use Rattle.reason.specs.declared.Reason.{Reason}
 use Rattle.reason.specs.declared.Reason.the-variants as R
-use Rattle.why.specs.Why.{shortBy, longBy, neighboursOf, toldBy, toldOf}
+use Rattle.why.specs.Why.{shortBy, longBy, toldBy, toldOf}
 use Rattle.why.specs.declared.Told.the-variants as T
 use Rattle.why.proofs.tell.Statement.{statement}
 use Rattle.why.proofs.tell.Tie as tie

@@ -2,7 +2,6 @@
 use borrow.Author.Needs.{needs}
 use mathlib.Core.Path.{_≡_, sym, ap, _∙_}
 use Rattle.table.specs.Tests.{firstFailing}
-use Rattle.reach.specs.declared.Arc.{Arc}
 use Rattle.reach.specs.Reach.{reachOf}
 use Rattle.theta.specs.declared.Sweep.{Sweep}
 use Rattle.theta.specs.Theta.{sweepOf, thetaTests, arcOf}

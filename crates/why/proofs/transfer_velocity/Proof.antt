@@ -1,6 +1,6 @@
 -- `why::transfer_velocity` meets its contract: case by case; the bracket is sound. Assumes nothing.
 use borrow.Author.Needs.{needs}
-use mathlib.Core.Path.{_≡_, sym, ap, _∙_}
+use mathlib.Core.Path.{sym, ap, _∙_}
 use Rattle.iterator.proofs.Single.{sound-of, more-is}
 use Rattle.lambert.specs.declared.Transfer.{Transfer}
 use Rattle.problem.specs.declared.Problem.the-variants.{Lambert}

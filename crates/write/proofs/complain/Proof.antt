@@ -2,7 +2,7 @@
 use mathlib.Core.Path.{sym}
 use lib.Seq.{length-take-le}
 use lib.Dec.{lit≤}
-use Rattle.write.proofs.Told.{line-inside}
+use Rattle.text.proofs.Fronts.{line-inside}
 use borrow.Author.Needs.{needs}
 use Rattle.write.proofs.complain.Statement.{statement}
 use Rattle.write.proofs.complain.Tie as tie

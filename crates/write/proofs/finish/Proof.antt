@@ -1,6 +1,6 @@
 -- The records lie within the session. Assumes nothing.
 use native.Mathlib.Omega.{arith}
-use mathlib.Core.Path.{_≡_, refl, sym, ap, _∙_}
+use mathlib.Core.Path.{sym, _∙_}
 use denote.Ref.{now}
 use Rattle.book.proofs.Laws.{turn-within}
 use borrow.Author.Needs.{needs}

@@ -1,7 +1,7 @@
 -- The rooms stay as they are; the turns fall. Assumes nothing.
 use Prim.Native.Nat.{ℕ, _≤_, zero-le}
 use native.Mathlib.Omega.{arith}
-use mathlib.Core.Path.{_≡_, refl, sym, _∙_}
+use mathlib.Core.Path.{refl, sym, _∙_, _≡_}
 use lib.ListN.{length}
 use borrow.Author.Needs.{needs}
 use Rattle.write.proofs.main.Statement.{statement}

@@ -1,5 +1,4 @@
 -- Within 16 bits, and then the writer. Assumes nothing.
-use mathlib.Core.Path.{_≡_, refl, sym, ap, _∙_}
 use mir.Syntax.{w16, w64}
 use mir.Facts.{toZ-ofZ}
 use denote.Ref.{now}

@@ -1,5 +1,5 @@
 -- The names in their order. Assumes nothing.
-use mathlib.Core.Path.{_≡_, refl, sym, ap, _∙_}
+use mathlib.Core.Path.{refl, sym, _∙_}
 use borrow.Author.Needs.{needs}
 use Rattle.entry.proofs.line.named.Statement.{statement}
 use Rattle.entry.proofs.line.named.Tie as tie

@@ -1,5 +1,5 @@
 -- By the end of the line. Assumes nothing.
-use mathlib.Core.Path.{_≡_, refl, sym, ap, _∙_}
+use mathlib.Core.Path.{refl, sym, _∙_}
 use Rattle.entry.specs.Entries.{ended}
 use borrow.Author.Needs.{needs}
 use Rattle.entry.proofs.line.only.Statement.{statement}

@@ -1,8 +1,8 @@
 -- The definition's tests, in their order. Assumes nothing.
-use mathlib.Core.Path.{_≡_, refl, sym, ap, _∙_}
+use mathlib.Core.Path.{refl, sym, ap, _∙_}
 use lib.ListN.{length}
 use borrow.Author.Tests.{lt-ltb, le-ltb, eq-eqb, ne-eqb}
-use Rattle.entry.specs.Entries.{namedOf, entryOf}
+use Rattle.entry.specs.Entries.{entryOf}
 use borrow.Author.Needs.{needs}
 use Rattle.entry.proofs.line.read.Statement.{statement}
 use Rattle.entry.proofs.line.read.Tie as tie

@@ -1,10 +1,7 @@
 -- By what each word says. Assumes nothing.
-use mathlib.Core.Path.{_≡_, refl, sym, _∙_}
+use mathlib.Core.Path.{refl, sym, _∙_}
 use mir.Syntax.{w64}
 use mir.Facts.{toZ-ofZ}
-use denote.Ref.{now}
-use Rattle.words.specs.Words.{wordAt}
-use Rattle.numerals.specs.Numbers.{wholeOf, signedOf}
 use borrow.Author.Needs.{needs}
 use Rattle.entry.proofs.parts.stamp_at.Statement.{statement}
 use Rattle.entry.proofs.parts.stamp_at.Tie as tie

@@ -1,5 +1,5 @@
 -- By what each word says. Assumes nothing.
-use mathlib.Core.Path.{_≡_, refl, sym, ap, _∙_}
+use mathlib.Core.Path.{refl, sym, _∙_}
 use borrow.Author.Needs.{needs}
 use Rattle.entry.proofs.parts.vector_at.Statement.{statement}
 use Rattle.entry.proofs.parts.vector_at.Tie as tie

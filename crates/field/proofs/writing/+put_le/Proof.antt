@@ -1,10 +1,10 @@
 -- One byte, and the others behind it, by recursion on their number. Assumes nothing.
-use Prim.Native.Nat.{ℕ, _<_, _+_, _-_, _/_}
+use Prim.Native.Nat.{ℕ, _<_}
 use native.Mathlib.Omega.{arith}
-use mathlib.Core.Path.{_≡_, _∙_}
+use mathlib.Core.Path.{_∙_}
 use denote.Ref.{now}
+use Rattle.facts.proofs.Wholes.{nonzero}
 use Rattle.text.proofs.Stand.{then, none, same-size}
-use Rattle.text.proofs.Decimals.{nonzero}
 use Rattle.field.proofs.Bytes.{bytes-none, bytes-more}
 use borrow.Fn.Kinds.{In}
 use borrow.Fn.PlainCycle.{Measures, is, falls, and}

@@ -1,5 +1,5 @@
 -- The NaN's pattern, or the number's own. Assumes nothing.
-use Rattle.field.proofs.Patterns.{no-nan, nan-pattern}
+use Rattle.real.proofs.Patterns.{not-nan, nan-pattern}
 use borrow.Author.Needs.{needs}
 use Rattle.field.proofs.writing.put_float.Statement.{statement}
 use Rattle.field.proofs.writing.put_float.Tie as tie
@@ -14,7 +14,7 @@ returns : tie.Need-returns
 returns c = rw (nan-pattern (c .before .before .before .before .before .before .args .x) (c .before .before .before .before .if1 .taken)) (c .before .before .put .ensures)
 
 float-to-bits-put : tie.Need-float-to-bits-put
-float-to-bits-put c = no-nan _ (c .before .if1 .left)
+float-to-bits-put c = not-nan _ (c .before .if1 .left)
 
 put-requires-2 : tie.Need-put-requires-2
 put-requires-2 c κs = search needs

@@ -1,10 +1,10 @@
 -- The numbers, and what stands ahead of them. Assumes nothing.
-use mir.Syntax.{w16, w64}
+use mir.Syntax.{w64}
 use mir.Facts.{toZ-ofZ}
 use native.Mathlib.Omega.{arith}
+use Rattle.session.proofs.Numbers.{numbers-few}
 use Rattle.library_records.specs.Records.{readTold}
 use Rattle.lent.proofs.Gives.{put}
-use Rattle.library_records.proofs.Laws.{numbers-few}
 use borrow.Author.Needs.{needs}
 use Rattle.library_records.proofs.reading.give_record.Statement.{statement}
 use Rattle.library_records.proofs.reading.give_record.Tie as tie

@@ -2,7 +2,7 @@
 use mathlib.Core.Path.{sym, ap, _∙_}
 use borrow.Author.Needs.{needs}
 use Rattle.numerals.specs.Numbers.{ofPattern}
-use Rattle.numerals.proofs.Nearest.{nan-bits, no-nan-bits}
+use Rattle.real.proofs.Patterns.{nan-bits, no-nan-bits}
 use Rattle.numerals.specs.declared.reals.Number.the-variants as N
 use Rattle.numerals.proofs.reals.of_pattern.Statement.{statement}
 use Rattle.numerals.proofs.reals.of_pattern.Tie as tie

@@ -1,5 +1,4 @@
 -- The row, and the newline. Assumes nothing.
-use Rattle.text.specs.Pieces.{then}
 use Rattle.text.proofs.Lays.{one, and-then}
 use Rattle.script.specs.Script.{backPieces}
 use borrow.Author.Needs.{needs}

@@ -1,6 +1,6 @@
 -- A blank, and the body. Assumes nothing.
 use Rattle.text.specs.Pieces.{then}
-use Rattle.text.proofs.Lays.{one, and-then}
+use Rattle.text.proofs.Lays.{one}
 use Rattle.script.specs.Script.{bodyPieces}
 use borrow.Author.Needs.{needs}
 use Rattle.script.proofs.records.body.Statement.{statement}

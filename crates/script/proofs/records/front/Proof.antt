@@ -2,7 +2,7 @@
 use mir.Syntax.{w16, w64}
 use mir.Facts.{toZ-ofZ}
 use Rattle.text.specs.Pieces.{then}
-use Rattle.text.proofs.Lays.{one, and-then}
+use Rattle.text.proofs.Lays.{and-then}
 use Rattle.script.specs.Script.{frontPieces}
 use borrow.Author.Needs.{needs}
 use Rattle.script.proofs.records.front.Statement.{statement}

@@ -1,8 +1,8 @@
 -- Five pieces. Assumes nothing.
-use mir.Syntax.{w16, w64}
+use mir.Syntax.{w64}
 use mir.Facts.{toZ-ofZ}
 use Rattle.text.specs.Pieces.{then}
-use Rattle.text.proofs.Lays.{one, and-then}
+use Rattle.text.proofs.Lays.{one}
 use Rattle.script.specs.Script.{headPieces}
 use borrow.Author.Needs.{needs}
 use Rattle.script.proofs.records.head.Statement.{statement}

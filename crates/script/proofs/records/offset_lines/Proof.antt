@@ -3,7 +3,7 @@ use native.Mathlib.Omega.{arith}
 use mir.Syntax.{w16, w64}
 use mir.Facts.{toZ-ofZ}
 use Rattle.text.specs.Pieces.{then}
-use Rattle.text.proofs.Lays.{one, and-then}
+use Rattle.text.proofs.Lays.{one}
 use Rattle.script.specs.Script.{offsetPieces}
 use borrow.Author.Needs.{needs}
 use Rattle.script.proofs.records.offset_lines.Statement.{statement}

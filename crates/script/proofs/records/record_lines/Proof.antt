@@ -1,8 +1,7 @@
 -- Each kind by its numbers. Assumes nothing.
 use mir.Syntax.{w16, w64}
 use mir.Facts.{toZ-ofZ}
-use Rattle.text.specs.Pieces.{then}
-use Rattle.text.proofs.Lays.{one, and-then}
+use Rattle.text.proofs.Lays.{and-then}
 use borrow.Author.Needs.{needs}
 use Rattle.script.proofs.records.record_lines.Statement.{statement}
 use Rattle.script.proofs.records.record_lines.Tie as tie

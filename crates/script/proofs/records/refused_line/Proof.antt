@@ -1,6 +1,6 @@
 -- Five pieces. Assumes nothing.
 use Rattle.text.specs.Pieces.{then}
-use Rattle.text.proofs.Lays.{one, and-then}
+use Rattle.text.proofs.Lays.{one}
 use Rattle.script.specs.Script.{refusedPieces}
 use borrow.Author.Needs.{needs}
 use Rattle.script.proofs.records.refused_line.Statement.{statement}

@@ -1,10 +1,9 @@
 -- The day and the cs by the local clock. Assumes nothing.
-use mathlib.Core.Path.{_≡_, refl, sym, ap, _∙_}
-use lib.IntN.{ℤ}
+use mathlib.Core.Path.{_≡_}
 use mir.Syntax.{w16, w64}
 use mir.Facts.{toZ-ofZ}
 use Rattle.text.specs.Pieces.{then}
-use Rattle.text.proofs.Lays.{one, and-then}
+use Rattle.text.proofs.Lays.{one}
 use Rattle.lines.specs.Days.{localOf, dayOf, csOf}
 use Rattle.script.specs.Script.{stampPieces}
 use borrow.Author.Needs.{needs}

@@ -1,6 +1,6 @@
 -- Three pieces. Assumes nothing.
 use Rattle.text.specs.Pieces.{then}
-use Rattle.text.proofs.Lays.{one, and-then}
+use Rattle.text.proofs.Lays.{one}
 use Rattle.script.specs.Script.{whoPieces}
 use borrow.Author.Needs.{needs}
 use Rattle.script.proofs.records.who.Statement.{statement}

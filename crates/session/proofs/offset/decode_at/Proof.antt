@@ -1,14 +1,14 @@
 -- The offset's record is told by its kind. Assumes nothing.
-use mathlib.Core.Path.{_≡_, sym, ap, _∙_}
-use mathlib.Core.Bool.{Bool, true, cond}
+use mathlib.Core.Path.{sym, ap, _∙_}
+use mathlib.Core.Bool.{Bool, cond}
 use lib.ListN.{length}
 use lib.Dec.{leb, eqb}
 use denote.Ref.{now}
 use borrow.Author.Tests.{leb-true}
+use Rattle.facts.proofs.Truth.{each}
 use Rattle.field.specs.Bytes.{field}
 use Rattle.session.specs.Decode.{decodeOf}
-use Rattle.session.specs.Offset.{isOffset, offsetOf}
-use Rattle.session.proofs.Numbers.{both}
+use Rattle.session.specs.Offset.{offsetOf}
 use borrow.Author.Needs.{needs}
 use Rattle.session.proofs.offset.decode_at.Statement.{statement}
 use Rattle.session.proofs.offset.decode_at.Tie as tie
@@ -19,7 +19,7 @@ is-offset-requires c κs = search needs
 offset-of-requires : tie.Need-offset-of-requires
 offset-of-requires c κs =
     let s = now (c .before .before .before .args .s) in
-    leb-true 4 (length s) (both (leb 4 (length s)) (eqb (field 2 2 s) 4) (sym (c .before .is-offset .ensures) ∙ c .if1 .taken) .0)
+    leb-true 4 (length s) (each (leb 4 (length s)) (eqb (field 2 2 s) 4) (sym (c .before .is-offset .ensures) ∙ c .if1 .taken) .0)
 
 returns : tie.Need-returns
 returns c =

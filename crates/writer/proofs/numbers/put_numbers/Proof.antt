@@ -1,19 +1,14 @@
 -- Each kind's numbers, by threes. Assumes nothing.
-use Prim.Native.Nat.{_*_, _≤_}
 use native.Mathlib.Omega.{arith}
-use mathlib.Core.Path.{_≡_, sym, ap, _∙_}
-use mathlib.Core.Bool.{true}
+use mathlib.Core.Path.{_≡_, ap, _∙_}
 use mathlib.Core.List.{[], _∷_, _++_}
-use lib.ListN.{length}
 use lib.Ieee.{toBits, binary64}
-use denote.Ref.{now}
 use Rattle.session.specs.declared.record.Record.{Record}
-use Rattle.session.specs.Layout.{numbersIn, allFinite, numberBytes}
+use Rattle.session.specs.Layout.{numbersIn, numberBytes}
 use Rattle.field.proofs.Bytes.{bytes-length}
-use Rattle.session.proofs.Numbers.{both}
 use Rattle.session.proofs.ReadBack.{numbers-length}
 use Rattle.text.proofs.Stand.{then, same-size}
-use Rattle.writer.proofs.Laws.{eight, two-numbers, more-numbers, all-append, two-each}
+use Rattle.writer.proofs.Laws.{eight, two-numbers, more-numbers}
 use borrow.Author.Needs.{needs}
 use Rattle.writer.proofs.numbers.put_numbers.Statement.{statement}
 use Rattle.writer.proofs.numbers.put_numbers.Tie as tie
@@ -24,23 +19,17 @@ enum-known-r c = search needs
 put-three-requires : tie.Need-put-three-requires
 put-three-requires c κs =
     let x = c .before .before .before .r .given in
-    let s = x .0 .0 .state in
-    let p = s .rx ∷ s .ry ∷ s .rz ∷ [] in
-    let v = s .vx ∷ s .vy ∷ s .vz ∷ [] in
     let g = rw (x .1) at (c .before .before .before .before .before .before .pre) in
-    let b = both (allFinite p) (allFinite v) (sym (all-append p v) ∙ g .1) in
-    (omega (arith, g .0), b .0)
+    omega (arith, g)
 
 put-three-requires-2 : tie.Need-put-three-requires-2
 put-three-requires-2 c κs =
     let x = c .before .before .before .before .before .before .before .r .given in
     let s = x .0 .0 .state in
     let p = s .rx ∷ s .ry ∷ s .rz ∷ [] in
-    let v = s .vx ∷ s .vy ∷ s .vz ∷ [] in
     let g = rw (x .1) at (c .before .before .before .before .before .before .before .before .before .before .pre) in
-    let b = both (allFinite p) (allFinite v) (sym (all-append p v) ∙ g .1) in
     let q = c .before .before .before .put-three .ensures in
-    (omega (arith, q .next, numbers-length p, same-size q, g .0), b .1)
+    omega (arith, q .next, numbers-length p, same-size q, g)
 
 enum-known-r-2 : tie.Need-enum-known-r-2
 enum-known-r-2 c = search needs
@@ -49,7 +38,7 @@ put-three-requires-3 : tie.Need-put-three-requires-3
 put-three-requires-3 c κs =
     let x = c .before .before .before .r2 .given in
     let g = rw (x .1) at (c .before .before .before .before .before .before .pre) in
-    (omega (arith, g .0), g .1)
+    omega (arith, g)
 
 enum-known-r-3 : tie.Need-enum-known-r-3
 enum-known-r-3 c = search needs
@@ -58,14 +47,14 @@ put-number-requires : tie.Need-put-number-requires
 put-number-requires c κs =
     let x = c .before .before .r3 .given in
     let g = rw (x .1) at (c .before .before .before .before .before .pre) in
-    (omega (arith, g .0), two-each (x .0 .0 .range) (x .0 .0 .rate) (g .1) .0)
+    omega (arith, g)
 
 put-number-requires-2 : tie.Need-put-number-requires-2
 put-number-requires-2 c κs =
     let x = c .before .before .before .before .before .before .r3 .given in
     let g = rw (x .1) at (c .before .before .before .before .before .before .before .before .before .pre) in
     let q = c .before .before .before .put-number .ensures in
-    (omega (arith, q .next, bytes-length 8 (toBits binary64 (x .0 .0 .range)), same-size q, g .0), two-each (x .0 .0 .range) (x .0 .0 .rate) (g .1) .1)
+    omega (arith, q .next, bytes-length 8 (toBits binary64 (x .0 .0 .range)), same-size q, g)
 
 same-length : tie.Need-same-length
 same-length c = search needs

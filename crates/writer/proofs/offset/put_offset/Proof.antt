@@ -1,8 +1,8 @@
 -- The fields one behind the other, the first put last. Assumes nothing.
 use Prim.Native.Nat.{ℕ}
 use native.Mathlib.Omega.{arith}
-use mathlib.Core.Path.{_≡_, sym, ap, _∙_}
-use mathlib.Core.List.{List, _++_}
+use mathlib.Core.Path.{_≡_, ap, _∙_}
+use mathlib.Core.List.{_++_}
 use mir.Syntax.{w16}
 use mir.Facts.{toZ-ofZ}
 use Rattle.field.specs.Bytes.{bytesLe, shortBits}

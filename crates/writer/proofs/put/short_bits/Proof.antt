@@ -2,9 +2,8 @@
 use Prim.Native.Nat.{ℕ, _%_}
 use native.Mathlib.Omega.{arith}
 use mathlib.Core.Path.{_≡_, ap, _∙_}
-use lib.IntN.{ℤ}
 use mir.Syntax.{w16, w64}
-use mir.Facts.{toZ-ofZ, sfits-widen}
+use mir.Facts.{toZ-ofZ}
 use Rattle.field.specs.Bytes.{bitsOf}
 use Rattle.writer.proofs.Laws.{short-own}
 use borrow.Author.Needs.{needs}

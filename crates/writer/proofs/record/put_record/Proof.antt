@@ -5,14 +5,13 @@ use Prim.Native.Nat.{_+_, _-_, _≤_}
 use native.Mathlib.Omega.{arith}
 use mathlib.Core.Path.{_≡_, ap, _∙_}
 use lib.ListN.{length, length-take, length-drop}
-use lib.IntN.{ℤ}
 use Rattle.field.specs.Bytes.{bitsOf}
 use Rattle.session.specs.Layout.{kindIn, timeIn, numbersIn}
 use Rattle.field.proofs.Bytes.{bytes-length}
 use Rattle.session.proofs.Table.{length-law}
 use Rattle.session.proofs.ReadBack.{numbers-length, count-own}
 use Rattle.text.proofs.Stand.{then, lent, earlier, same-size}
-use Rattle.writer.proofs.Laws.{rest-length, allowed-finite, record-bytes}
+use Rattle.writer.proofs.Laws.{rest-length, record-bytes}
 use borrow.Author.Needs.{needs}
 use Rattle.writer.proofs.record.put_record.Statement.{statement}
 use Rattle.writer.proofs.record.put_record.Tie as tie
@@ -28,7 +27,7 @@ add-put-rest c = search needs
 
 put-rest-requires : tie.Need-put-rest-requires
 put-rest-requires c κs =
-    omega (arith, c .before .before .before .before .before .pre .0, length-law (kindIn (c .before .before .before .before .before .args .r)))
+    omega (arith, c .before .before .before .before .before .pre, length-law (kindIn (c .before .before .before .before .before .args .r)))
 
 sub-put-numbers : tie.Need-sub-put-numbers
 sub-put-numbers c = search needs
@@ -43,10 +42,8 @@ put-numbers-requires : tie.Need-put-numbers-requires
 put-numbers-requires c κs =
     let r = c .before .before .before .before .before .before .before .before .before .args .r in
     let h = c .before .before .before .before .before .before .before .header-of .result in
-    let p = c .before .before .before .put-rest .ensures in (
-      simp (length-take, length-drop) (omega (arith, p .next, same-size p, c .before .before .before .before .before .before .before .before .before .pre .0, length-law (kindIn r), rest-length (h .number) (h .vehicle) (h .byte) (c .before .before .before .before .before .bits-of .result))),
-      allowed-finite r (c .before .before .before .before .before .before .before .before .before .pre .1),
-    )
+    let p = c .before .before .before .put-rest .ensures in
+    simp (length-take, length-drop) (omega (arith, p .next, same-size p, c .before .before .before .before .before .before .before .before .before .pre, length-law (kindIn r), rest-length (h .number) (h .vehicle) (h .byte) (c .before .before .before .before .before .bits-of .result)))
 
 put-field-requires : tie.Need-put-field-requires
 put-field-requires c κs = search needs

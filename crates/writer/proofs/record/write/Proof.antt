@@ -7,10 +7,10 @@ use lib.ListN.{length, take, drop}
 use lib.Dec.{leb}
 use denote.Ref.{now}
 use borrow.Author.Tests.{not-true, not-false, leb-true}
+use Rattle.facts.proofs.Truth.{and-0}
 use Rattle.session.specs.Kinds.{lengthOf}
 use Rattle.session.specs.Layout.{kindIn, bytesOf}
 use Rattle.session.specs.Decode.{allowedIn}
-use Rattle.session.proofs.Numbers.{both}
 use Rattle.session.proofs.ReadBack.{bytes-of-length}
 use Rattle.writer.specs.declared.record.Written.the-variants.{Next}
 use Rattle.writer.specs.Write.{hasRoom, behind}
@@ -44,10 +44,9 @@ returns-2 c =
 put-record-requires : tie.Need-put-record-requires
 put-record-requires c κs =
     let a = c .before .before .before .before .before .before .before .args in
-    let u : allowedIn (a .r) ≡ true = sym (c .before .before .before .before .before .is-allowed .ensures) ∙ not-false _ (c .before .before .before .before .if1 .left) in
     let o : hasRoom (a .at) (lengthOf (kindIn (a .r))) (length (now (a .buf))) ≡ true = sym (ap (λ (n : ℕ). hasRoom (a .at) n (length (now (a .buf)))) (c .before .before .before .header-of .ensures .0)) ∙ sym (c .before .before .has-room .ensures) ∙ not-false _ (c .before .if2 .left) in
     let n = a .at + lengthOf (kindIn (a .r)) in
-    (leb-true n (length (now (a .buf))) (both (leb n (length (now (a .buf)))) (leb n 65536) o .0), u)
+    leb-true n (length (now (a .buf))) (and-0 (leb n (length (now (a .buf)))) (leb n 65536) o)
 
 same-length : tie.Need-same-length
 same-length c = search needs
