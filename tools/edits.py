@@ -3,9 +3,9 @@
 what comes out. `edits.py [CRATE|CRATE/LABEL ..]`, all of them with no word; the crates must be proved.
 
 `rt must-fail` checks the whole crate anew for each edit. Here the edits of one crate are tried one behind the other over
-one incremental folder (`rt dev`), so that only what an edit alters is checked again: a refusal is the prover's own either
-way. Crates are tried side by side, RT_JOBS at a time. The last line is the count; ends with 1 where an edit is not
-refused, or is no edit."""
+one incremental folder, with the prover's words as `rt dev` has them, so that only what an edit alters is checked again: a
+refusal is the prover's own either way. Crates are tried side by side, RT_JOBS at a time. The last line is the count; ends
+with 1 where an edit is not refused, or is no edit."""
 import concurrent.futures
 import os
 import pathlib
@@ -54,35 +54,57 @@ def altered(crate, edit):
     return texts
 
 
-class Room:
-    """A copy of the repository for one crate's edits: its own sources and logs, and the libraries as they were proved."""
+def dependencies():
+    """What each crate stands on, by crates.txt."""
+    lines = (line.split("#")[0] for line in (ROOT / "crates.txt").read_text().splitlines())
+    return {name.strip(): rest.split() for name, colon, rest in (line.partition(":") for line in lines) if colon}
 
-    def __init__(self, crate):
-        self.crate, self.path = crate, ROOMS / crate
-        target = self.path / "target"
-        shutil.rmtree(self.path / "crates", ignore_errors=True)
-        for part in ("rlib", "stamp", "log"):
-            shutil.rmtree(target / part, ignore_errors=True)
-        target.mkdir(parents=True, exist_ok=True)
-        shutil.copytree(ROOT / "crates", self.path / "crates", copy_function=os.link)
-        shutil.copytree(ROOT / "target" / "rlib", target / "rlib", copy_function=os.link)
-        shutil.copytree(ROOT / "target" / "stamp", target / "stamp", copy_function=os.link)
-        shutil.copy(ROOT / "crates.txt", self.path)
+
+class Kit:
+    """Where the prover and its libraries are."""
+
+    def __init__(self):
+        ran = subprocess.run(["rt", "doc"], capture_output=True, text=True, check=True)
+        self.home = pathlib.Path(ran.stdout.strip()).parent.parent
+        self.own = self.home / "on" / os.uname().machine
+        self.over = dependencies()
+
+    def library(self, name):
+        return (ROOT / "target" if name in self.over else self.own) / "rlib" / f"{name}.rlib"
+
+    def check(self, crate, root, kept):
+        """The command that checks a crate over what is kept of earlier checks."""
+        words = [self.own / "bin" / "rattle", "check", "--crate-name", crate, root]
+        for name in ["std", *self.over[crate]]:
+            words += ["--extern", f"{name}={self.library(name)}"]
+        words += ["-L", f"dependency={ROOT / 'target' / 'rlib'}", "-L", f"dependency={self.own / 'rlib'}"]
+        return words + ["--antt-project", self.home / "logic" / "antt-project.json", "--logic-built", self.own / "logic-built",
+                        "--incremental", kept]
+
+
+class Room:
+    """A copy of one crate, and what is kept of its checks."""
+
+    def __init__(self, kit, crate):
+        self.kit, self.crate, self.path = kit, crate, ROOMS / crate
+        self.leave()
+        for part in ("src", "specs", "proofs"):
+            if (ROOT / "crates" / crate / part).is_dir():
+                shutil.copytree(ROOT / "crates" / crate / part, self.path / part)
+        (self.path / "kept").mkdir(parents=True, exist_ok=True)
 
     def put(self, file, text):
-        place = self.path / "crates" / self.crate / file
-        place.unlink()  # a link to the repository's own file
-        place.write_text(text)
+        (self.path / file).write_text(text)
 
     def check(self):
         """The prover's status and what it said."""
-        ran = subprocess.run(["rt", "dev", self.crate], cwd=self.path, capture_output=True, text=True,
-                             env=dict(os.environ, RT_CUT="0"))
+        root = next(path for path in (self.path / "src" / "lib.rt", self.path / "src" / "main.rt") if path.exists())
+        ran = subprocess.run(self.kit.check(self.crate, root, self.path / "kept"), capture_output=True, text=True)
         return ran.returncode, ran.stdout + ran.stderr
 
     def leave(self):
-        """Only the incremental folder is kept, for the next time."""
-        for part in ("crates", "target/rlib", "target/stamp", "target/log"):
+        """Only what is kept of the checks stays, for the next time."""
+        for part in ("src", "specs", "proofs"):
             shutil.rmtree(self.path / part, ignore_errors=True)
 
 
@@ -111,9 +133,9 @@ def try_edit(room, edit):
     return answer
 
 
-def try_crate(crate, edits, told):
+def try_crate(kit, crate, edits, told):
     """How many edits were refused, and the others by name."""
-    room, refused, wrong = Room(crate), 0, []
+    room, refused, wrong = Room(kit, crate), 0, []
     for edit in edits:
         began = time.time()
         good, words = try_edit(room, edit)
@@ -137,9 +159,9 @@ def wanted(words):
 
 def main():
     jobs = int(os.environ.get("RT_JOBS") or min(4, os.cpu_count() or 1))
-    told, refused, wrong = threading.Lock(), 0, []
+    kit, told, refused, wrong = Kit(), threading.Lock(), 0, []
     with concurrent.futures.ThreadPoolExecutor(jobs) as pool:
-        for good, bad in pool.map(lambda item: try_crate(*item, told), wanted(sys.argv[1:])):
+        for good, bad in pool.map(lambda item: try_crate(kit, *item, told), wanted(sys.argv[1:])):
             refused, wrong = refused + good, wrong + bad
     for one in wrong:
         print(f"not refused: {one}")

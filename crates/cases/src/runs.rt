@@ -2,13 +2,14 @@
 ghost use mathlib.Core.Path.{_≡_};
 ghost use mathlib.Core.List.{_∷_};
 ghost use Rattle.field.specs.Bytes.{bitsOf};
-ghost use Rattle.iterator.specs.Same.{kindOf, carriedOf};
+ghost use Rattle.iterator.specs.Same.{kindOf};
 ghost use Rattle.lent.specs.Given.{putIn};
 ghost use Rattle.cases.specs.Cases.{stoppedNumbers, stoppedWholes, bracketFrom, beginningFrom, runShort, runMisjudged};
 use crate::judgement_from;
 use iterator::Beginning;
 use iterator::Bracket;
 use iterator::Judgement;
+use iterator::carried;
 use lent::bits_of;
 use lent::number_at;
 use lent::put_numbers;
@@ -23,17 +24,6 @@ fn judgement_number(j: Judgement) -> u64
         Judgement::High(_) => 1,
         Judgement::Under => 2,
         Judgement::Over => 3,
-    }
-}
-
-fn time_carried(j: Judgement) -> f64
-    ensures { λ r. ⌜ r ≡ carriedOf j ⌝ }
-{
-    match j {
-        Judgement::Low(t) => t,
-        Judgement::High(t) => t,
-        Judgement::Under => 0.0,
-        Judgement::Over => 0.0,
     }
 }
 
@@ -55,7 +45,7 @@ pub fn put_times(out: &mut [f64], b: Bracket)
 {
     let below = b.below;
     let above = b.above;
-    let xs = [time_carried(below), time_carried(above)];
+    let xs = [carried(below), carried(above)];
     put_numbers(out, &xs);
 }
 

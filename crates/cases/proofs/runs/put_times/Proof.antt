@@ -3,11 +3,11 @@ use borrow.Author.Needs.{needs}
 use Rattle.cases.proofs.runs.put_times.Statement.{statement}
 use Rattle.cases.proofs.runs.put_times.Tie as tie
 
-time-carried-requires : tie.Need-time-carried-requires
-time-carried-requires c κs = search needs
+carried-requires : tie.Need-carried-requires
+carried-requires c κs = search needs
 
-time-carried-requires-2 : tie.Need-time-carried-requires-2
-time-carried-requires-2 c κs = search needs
+carried-requires-2 : tie.Need-carried-requires-2
+carried-requires-2 c κs = search needs
 
 slice-aggregate-put-numbers : tie.Need-slice-aggregate-put-numbers
 slice-aggregate-put-numbers c = search needs
@@ -25,8 +25,8 @@ pub put-times-spec : {M : Type 1} → statement M
 put-times-spec =
     tie.close
     (tie.spec
-    time-carried-requires
-    time-carried-requires-2
+    carried-requires
+    carried-requires-2
     slice-aggregate-put-numbers
     put-numbers-requires
     same-length
