@@ -151,17 +151,22 @@ library_digest() { library_crates | while read -r crate; do digest "$crate" || e
 # Proves the library's crates and puts what is built of them into one archive, as `prove` does a program. In what is built
 # of a crate all names but those of its own routines are local, so that the parts do not meet.
 prove_library() {
-    local made crate log=$keep/library.log parts
+    local made crates below log=$keep/library.log parts
     lock
     need_cc
+    need python3 python3
     made=$(library_digest) || exit 2
     [ ! -f "$keep/libcabin-$made.a" ] || return 0
+    crates=$(library_crates)
+    [ -n "$crates" ] || fail "crates.txt lists no crate of the library"
     say "proving and building the library (once; a few minutes)"
+    below=$(for crate in $crates; do related below "$crate" | tail -n +2; done | sort -u)
+    # shellcheck disable=SC2086
+    (cd "$home" && rt check $below && python3 tools/staticlibs.py $crates) 2>&1 </dev/null | tee "$log" |
+        progress "$(wc -w <<<"$below $crates")" || fail "the library could not be built: the end of $log says why"
     parts=$(mktemp -d)
     clean+=("$parts")
-    for crate in $(library_crates); do
-        (cd "$home" && rt staticlib "$crate") 2>&1 </dev/null | tee "$log" | progress "$(related below "$crate" | wc -l)" ||
-            fail "the library could not be built: the end of $log says why"
+    for crate in $crates; do
         (cd "$parts" && "${cc%gcc}ar" x "$home/target/staticlib/lib$crate.a") || fail "the library's part '$crate' cannot be read"
     done
     [ "$(library_digest)" = "$made" ] || { say "a file of the library changed meanwhile"; return 0; }

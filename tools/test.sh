@@ -10,9 +10,10 @@ passed=0 failed=0 wrong=() left=() whole=no
 at_end=verdict
 
 part() { # NAME COMMAND..
-    local status=0
+    local status=0 began=$SECONDS
     printf '\n== %s\n' "$1"
     "${@:2}" || status=$?
+    printf -- '-- %d s\n' $((SECONDS - began))
     case $status in
     0) passed=$((passed + 1)) ;;
     77) left+=("$1") ;;
@@ -28,7 +29,7 @@ want() { # COMMAND PACKAGE
 # From nothing, with the prover's own count; its lines are printed as they come, and the count is kept for the end. What
 # was proved is made ready, and from then on nothing is built: a part that lacks its program fails at once.
 proofs() {
-    local log=$keep/gate.log
+    local log=$keep/gate.log began=$SECONDS
     printf '\n== proofs, programs, wrong builds\n'
     bash tools/proofs.sh 2>&1 | tee "$log" | sed -u '/^[0-9]* passed, [0-9]* failed$/d' || true
     if [[ $(tail -n 1 "$log") =~ ^([0-9]+)\ passed,\ ([0-9]+)\ failed$ ]]; then
@@ -37,10 +38,13 @@ proofs() {
     else
         failed=$((failed + 1)) wrong+=("proofs, which gave no count")
     fi
+    printf -- '-- %d s\n\n== programs and the library made ready\n' $((SECONDS - began))
+    began=$SECONDS
     for main in crates/*/src/main.rt; do
         ./cabin ready "$(basename "${main%/src/main.rt}")" >/dev/null || true
     done
     mkdir -p target/library && ./cabin library target/library || true
+    printf -- '-- %d s\n' $((SECONDS - began))
     export CABIN_BUILD=no
 }
 
@@ -53,6 +57,7 @@ verdict() {
     printf '\n'
     for one in "${left[@]}"; do printf 'NOT RUN: %s\n' "$one"; done
     for one in "${wrong[@]}"; do printf 'FAILED: %s\n' "$one"; done
+    printf 'in %d min %d s\n' $((SECONDS / 60)) $((SECONDS % 60))
     printf '%s passed, %s failed\n' "$passed" "$failed"
 }
 
