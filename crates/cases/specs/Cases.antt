@@ -14,7 +14,7 @@ use Rattle.iterator.specs.declared.Judgement.the-variants.{Low, High, Under, Ov
 use Rattle.iterator.specs.declared.Bracket.{Bracket}
 use Rattle.iterator.specs.declared.Beginning.{Beginning}
 use Rattle.iterator.specs.declared.Beginning.the-variants.{Start, Stopped}
-use Rattle.iterator.specs.Same.{kindOf, carriedOf}
+use Rattle.iterator.specs.Same.{judgementNumber, carriedOf}
 use Rattle.lambert.specs.declared.Way.{Way}
 use Rattle.lambert.specs.declared.Way.the-variants.{Short, Long, Normal}
 use Rattle.solve.specs.declared.Grade.{Grade}
@@ -65,7 +65,7 @@ abbrev pub stoppedNumbers : Bracket → List Float
 stoppedNumbers b = carriedOf (b .below) ∷ carriedOf (b .above) ∷ []
 
 abbrev pub stoppedWholes : Bracket → List ℕ
-stoppedWholes b = bitsOf (b .lo) ∷ kindOf (b .below) ∷ bitsOf (b .hi) ∷ kindOf (b .above) ∷ b .count ∷ []
+stoppedWholes b = bitsOf (b .lo) ∷ judgementNumber (b .below) ∷ bitsOf (b .hi) ∷ judgementNumber (b .above) ∷ b .count ∷ []
 
 -- the same read
 abbrev pub bracketFrom : List ℕ → List Float → Bracket

@@ -2,30 +2,18 @@
 ghost use mathlib.Core.Path.{_≡_};
 ghost use mathlib.Core.List.{_∷_};
 ghost use Rattle.field.specs.Bytes.{bitsOf};
-ghost use Rattle.iterator.specs.Same.{kindOf};
 ghost use Rattle.lent.specs.Given.{putIn};
 ghost use Rattle.cases.specs.Cases.{stoppedNumbers, stoppedWholes, bracketFrom, beginningFrom, runShort, runMisjudged};
 use crate::judgement_from;
 use iterator::Beginning;
 use iterator::Bracket;
-use iterator::Judgement;
 use iterator::carried;
+use iterator::judgement_number;
 use lent::bits_of;
 use lent::number_at;
 use lent::put_numbers;
 use lent::put_wholes;
 use lent::word_at;
-
-fn judgement_number(j: Judgement) -> u64
-    ensures { λ r. ⌜ r ≡ kindOf j ⌝ }
-{
-    match j {
-        Judgement::Low(_) => 0,
-        Judgement::High(_) => 1,
-        Judgement::Under => 2,
-        Judgement::Over => 3,
-    }
-}
 
 fn lo_of(b: Bracket) -> u64
     ensures { λ r. ⌜ r ≡ bitsOf (b .lo) ⌝ }

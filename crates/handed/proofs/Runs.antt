@@ -15,10 +15,10 @@ use Rattle.iterator.specs.declared.Judgement.{Judgement}
 use Rattle.iterator.specs.declared.Judgement.the-variants.{Low, High, Under, Over}
 use Rattle.iterator.specs.declared.Bracket.{Bracket}
 use Rattle.iterator.specs.declared.Beginning.the-variants.{Stopped}
-use Rattle.iterator.specs.Same.{kindOf, carriedOf}
+use Rattle.iterator.specs.Same.{judgementNumber, carriedOf}
 use Rattle.cases.specs.Cases.{judgementFrom, stoppedNumbers, stoppedWholes, beginningFrom, runShort, runMisjudged}
 
-pub judgement-back : (j : Judgement) → judgementFrom (kindOf j) (carriedOf j) ≡ j
+pub judgement-back : (j : Judgement) → judgementFrom (judgementNumber j) (carriedOf j) ≡ j
 unfolding judgementFrom
 judgement-back (Low t) = refl
 judgement-back (High t) = refl
@@ -35,7 +35,7 @@ unfolding runShort
 run-long-enough b ws ts =
     rw (le-ltb (length (stoppedWholes b ++ ws)) 1 (omega arith), le-ltb (length (stoppedWholes b ++ ws)) 5 (omega arith), le-ltb (length (stoppedNumbers b ++ ts)) 2 (omega arith))
 
-both-judged : (lo hi count : ℕ) (j k : Judgement) (ws : List ℕ) → runMisjudged (lo ∷ kindOf j ∷ hi ∷ kindOf k ∷ count ∷ ws) ≡ false
+both-judged : (lo hi count : ℕ) (j k : Judgement) (ws : List ℕ) → runMisjudged (lo ∷ judgementNumber j ∷ hi ∷ judgementNumber k ∷ count ∷ ws) ≡ false
 unfolding runMisjudged
 both-judged lo hi count (Low t) (Low u) ws = refl
 both-judged lo hi count (Low t) (High u) ws = refl

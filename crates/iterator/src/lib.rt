@@ -4,7 +4,7 @@ ghost use mathlib.Core.Path.{_≡_};
 ghost use Prim.Native.Nat.{_<_};
 ghost use Rattle.iterator.specs.Judged.{inTime, judgedOf};
 ghost use Rattle.iterator.specs.Rule.{Grid, widthOf, within, secantOf, strideOf, pointOf};
-ghost use Rattle.iterator.specs.Same.{sameTime, kindOf, hasTime, carriedOf, sameAs};
+ghost use Rattle.iterator.specs.Same.{sameTime, judgementNumber, hasTime, carriedOf, sameAs};
 ghost use Rattle.iterator.specs.Single.{timeFinite, allFinite, inGrid, timeInTime, allInTime};
 ghost use Rattle.iterator.specs.Single.{isBelow, agrees, endsAgree, soundOf, nextTrialOf, trialOf, moreLeft};
 
@@ -286,8 +286,9 @@ fn same_time(x: f64, y: f64) -> bool
     a == b
 }
 
-fn kind(j: Judgement) -> u64
-    ensures { λ r. ⌜ r ≡ kindOf j ⌝ }
+// A judgement as a number: 0 low, 1 high, 2 under, 3 over.
+pub fn judgement_number(j: Judgement) -> u64
+    ensures { λ r. ⌜ r ≡ judgementNumber j ⌝ }
 {
     match j {
         Judgement::Low(_) => 0,
@@ -325,7 +326,7 @@ pub fn carried(j: Judgement) -> f64
 pub fn same(j: Judgement, k: Judgement) -> bool
     ensures { λ r. ⌜ r ≡ sameAs j k ⌝ }
 {
-    if kind(j) != kind(k) {
+    if judgement_number(j) != judgement_number(k) {
         return false;
     }
     same_time(carried(j), carried(k))

@@ -5,6 +5,7 @@ use mathlib.Core.Path.{_≡_, refl, sym, ap, _∙_, subst}
 use mathlib.Core.Bool.{Bool, true, false, cond, not, _&&_, _||_, false≢true, and-assoc}
 use mathlib.Core.List.{List, [], _∷_, _++_}
 use lib.Dec.{T, eqb, eqb→eq}
+use borrow.Author.Tests.{eq-eqb}
 use Rattle.facts.proofs.Truth.{and-0, and-1}
 use Rattle.facts.proofs.Wholes.{zero-one}
 use Rattle.table.specs.declared.Entry.{Entry}
@@ -150,6 +151,20 @@ one-row n (e ∷ es) h = go (one-row n es (and-1 (eqb (e .number) n) (isRow n es
     go : Numbered n (firstFailing es) → (b : Bool) → Numbered n (cond b (firstFailing es) (Failed e))
     go k true = k
     go k false = eqb→eq (e .number) n (subst T (sym (and-0 (eqb (e .number) n) (isRow n es) h)) tt)
+
+-- a row that the list does not have is not told
+abbrev pub NotRow : ℕ → Test → Type 0
+NotRow n Passed = Prim.Unit
+NotRow n (Failed e) = e .number ≡ n → ⊥
+
+pub not-row : (n : ℕ) (es : List Entry) → without n es ≡ true → NotRow n (firstFailing es)
+unfolding firstFailing
+not-row n [] h = tt
+not-row n (e ∷ es) h = go (not-row n es (and-1 (not (eqb (e .number) n)) (without n es) h)) (meets e)
+  where
+    go : NotRow n (firstFailing es) → (b : Bool) → NotRow n (cond b (firstFailing es) (Failed e))
+    go k true = k
+    go k false = λ z. false≢true (ap not (sym (eq-eqb _ _ z)) ∙ and-0 (not (eqb (e .number) n)) (without n es) h)
 
 -- where the tests ahead are met, the first that fails is among the rest
 pub met-then : (xs ys : List Entry) → allMeet xs ≡ true → firstFailing (xs ++ ys) ≡ firstFailing ys
