@@ -467,7 +467,7 @@ def killed_and_resumed(folder, results, refly, most, seconds):
         stamps = {path: path.stat().st_mtime_ns for path in finished(results)}
         run = start(folder, "--out", results, refly=refly, start_new_session=True)
         try:
-            run.wait(timeout=DICE.uniform(0.05, seconds) if kills < most else None)
+            run.wait(timeout=DICE.uniform(0, seconds) if kills < most else None)
         except subprocess.TimeoutExpired:
             if DICE.randrange(2):
                 os.killpg(run.pid, DICE.choice((signal.SIGKILL, signal.SIGTERM, signal.SIGINT, signal.SIGHUP)))
@@ -486,10 +486,14 @@ def _():
     with room() as (folder, results):
         nine(folder)
         made(folder, {f"cabin-{k % 9 + 1}/more {k}": session(6, k * HOUR % DAY, 60) for k in range(18)})
-        kills, status = killed_and_resumed(folder, results, None, 8, 0.9)
-        assert status == 1 and kills, (status, kills)
-        other = folder.parent / "other"
+        other, kills, began = folder.parent / "other", 0, time.monotonic()
         hold(night(folder, "--out", other), 1)
+        seconds = time.monotonic() - began
+        while not kills:  # a run may end ahead of its kill: then once more, with half the time
+            shutil.rmtree(results, ignore_errors=True)
+            kills, status = killed_and_resumed(folder, results, None, 8, seconds)
+            assert status == 1, status
+            seconds /= 2
         assert texts(results) == texts(other), "it ends as another"
         assert not list(results.rglob(".night-*")), "half a file is left"
 
