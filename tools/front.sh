@@ -105,13 +105,13 @@ lock() {
     export CABIN_LOCKED=yes
 }
 
-# Tells each crate that is proved.
+# Tells each crate that is proved; those that were proved before are only counted.
 progress() { # OF
     local line k=0
     while IFS= read -r line; do
         [[ $line =~ ^rt:\ ([a-z_0-9]+\ proved.*) ]] || continue
         k=$((k + 1))
-        say "$k of $1: ${BASH_REMATCH[1]}"
+        [[ $line == *'(unchanged since '* ]] || say "$k of $1: ${BASH_REMATCH[1]}"
     done
 }
 

@@ -182,10 +182,13 @@ def _():
 @case("a word that no command takes: 2, for every command of the table")
 def _():
     status, text, _said = front("help")
-    usages = [line[2:].split("  ")[0] for line in text.decode().split("\n") if line.startswith("  ")]
+    usages = re.findall(r"^  (\S.*)$", text.decode(), re.M)
     assert status == 0 and len(usages) >= 9, text
     for usage in usages:
         name, *words = usage.split()
+        for asked in (["help", name], [name, "--help"], [name, "-h"]):
+            status, told, said = front(*asked)
+            assert (status, said) == (0, "") and told.decode().startswith(f"usage: ./cabin {usage}\n      "), (asked, told, said)
         if ".." not in usage:
             hold(front(name, *("x" * (len(words) + 1))), 2, b"", f"usage: ./cabin {name}")
         for _missing in re.sub(r"\[[^]]*\]", "", usage).split()[1:]:

@@ -461,10 +461,11 @@ def finished(results):
 
 
 def killed_and_resumed(folder, results, refly, most, seconds):
-    """Kills a run at random points, some of its kin with it, until one ends; what was finished at a kill must not be run again."""
+    """Kills a run at random points within so many seconds, some of its kin with it, until one ends; what was finished at a
+    kill must not be run again. The kills, the status, and the seconds of the run that ended."""
     kills = 0
     while True:
-        stamps = {path: path.stat().st_mtime_ns for path in finished(results)}
+        stamps, began = {path: path.stat().st_mtime_ns for path in finished(results)}, time.monotonic()
         run = start(folder, "--out", results, refly=refly, start_new_session=True)
         try:
             run.wait(timeout=DICE.uniform(0, seconds) if kills < most else None)
@@ -476,7 +477,7 @@ def killed_and_resumed(folder, results, refly, most, seconds):
         run.communicate(timeout=60)
         assert all(path.stat().st_mtime_ns == stamp for path, stamp in stamps.items()), "a finished session was run again"
         if run.returncode in (0, 1):
-            return kills, run.returncode
+            return kills, run.returncode, time.monotonic() - began
         assert run.returncode in (2, -signal.SIGKILL, -signal.SIGTERM, -signal.SIGINT, -signal.SIGHUP), run.returncode
         kills += 1
 
@@ -491,7 +492,7 @@ def _():
         seconds = time.monotonic() - began
         while not kills:  # a run may end ahead of its kill: then once more, with half the time
             shutil.rmtree(results, ignore_errors=True)
-            kills, status = killed_and_resumed(folder, results, None, 8, seconds)
+            kills, status, _ = killed_and_resumed(folder, results, None, 8, seconds)
             assert status == 1, status
             seconds /= 2
         assert texts(results) == texts(other), "it ends as another"
@@ -864,7 +865,7 @@ def check_checks(browser, results, page):
 def year(nights=365):
     """Nine cabins; every night each has up to two sessions more, one in ten damaged; the run is killed at random points."""
     with room() as (folder, results):
-        wanted, kills, began = {}, 0, time.monotonic()
+        wanted, kills, began, took = {}, 0, time.monotonic(), 1.0
         for day in range(nights):
             fresh = {}
             for cabin in range(1, 10):
@@ -873,7 +874,7 @@ def year(nights=365):
                     fresh[name] = session(day, DICE.randrange(DAY), DICE.choice((None, 120, -840, 840)), (1.0,) * DICE.randrange(1, 6), tail)
                     wanted[name] = day, "failed" if tail else "passed"
             made(folder, fresh)
-            more, _ = killed_and_resumed(folder, results, None, DICE.randrange(3), 1.0)
+            more, _, took = killed_and_resumed(folder, results, None, DICE.randrange(3), took)
             kills += more
             if day % 30 == 29 or day == nights - 1:
                 got = {name: (one["day"], one["verdict"]) for name, one in verdicts(results).items()}

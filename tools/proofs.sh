@@ -1,13 +1,13 @@
 #!/usr/bin/env bash
 # All that the prover is asked, from nothing, as by `rt ci`: every crate proved, every program run, and every wrong build
 # refused (tools/edits.py, which checks what an edit alters where `rt ci` checks its whole crate). The last line is the count.
-# `rt check` waits for as many crates as it began with before it begins the next ones: with two for each processor, none idles.
+# `rt check` waits for as many crates as it began with before it begins the next ones: with four for each processor, few idle.
 cd "$(dirname "${BASH_SOURCE[0]}")/.." || exit 2
 rm -rf target
 log=$(mktemp) && trap 'rm -f "$log"' EXIT
 passed=0 failed=0
 
-RT_JOBS=${RT_JOBS:-$((2 * $(nproc)))} rt check 2>&1 | tee "$log"
+RT_JOBS=${RT_JOBS:-$((4 * $(nproc)))} rt check 2>&1 | tee "$log"
 last=$(tail -n 1 "$log")
 case $last in
 'rt: ok, '*) passed=$(awk '{ print $3 }' <<<"$last") ;;

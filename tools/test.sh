@@ -21,9 +21,12 @@ part() { # NAME COMMAND..
     esac
 }
 
-# Installs a command that one part alone needs. Where it cannot be had, the part says that it was not run.
-want() { # COMMAND PACKAGE
-    (need "$@") || true
+# Installs what later parts need of the machine, beside the proofs. Where a command cannot be had that one part alone
+# needs, that part says that it was not run.
+fetch() {
+    (need chromium chromium) || true
+    (need parallel parallel) || true
+    (need_cc) || true
 }
 
 # From nothing, with the prover's own count; its lines are printed as they come, and the count is kept for the end. What
@@ -40,6 +43,7 @@ proofs() {
     fi
     printf -- '-- %d s\n\n== programs and the library made ready\n' $((SECONDS - began))
     began=$SECONDS
+    wait "$fetching" || true
     for main in crates/*/src/main.rt; do
         ./cabin ready "$(basename "${main%/src/main.rt}")" >/dev/null || true
     done
@@ -63,9 +67,9 @@ verdict() {
 
 need_kit
 need python3 python3
-want chromium chromium
-want parallel parallel
 lock
+fetch >"$keep/fetch.log" 2>&1 </dev/null &
+fetching=$!
 part "layout" rt fmt --check
 part "promises" python3 tools/promises.py
 part "rules" python3 tools/rules.py
