@@ -24,7 +24,7 @@ LOOKED = ("settings/specs/History", r"\bL\.Refused (\d+)")  # where a version is
 CASES = {
     "advance": [LOOKED, ("kepler/specs/Kepler", TESTS), ("kepler/specs/Kepler", r"^resultRow .*= positionComponents (9)"), ("solve/specs/Answers", r"^advancedNumber .*= (7|8|29)$")],
     "transfer-velocity": [LOOKED, ("lambert/specs/Lambert", TESTS), ("lambert/specs/Lambert", r"^resultRow .*= velocityComponents (9)"), ("solve/specs/Answers", r"^transferredNumber .*= (7|8|29)$")],
-    "transfer-time": [("theta/specs/Theta", TESTS), ("theta/specs/Theta", r"^numberOf Too\w+ = ([78])")],
+    "transfer-time": [("theta/specs/Theta", TESTS), ("theta/specs/Theta", r"^transferTimeNumber Too\w+ = ([78])")],
     "apsides": [("apsides/specs/Apsides", TESTS)],
     # an advance without a limit is always finished, so that 29 does not come up
     "burn": [("burn/specs/Burn", r"\bRefused (?!29)(\d+)"), ("kepler/specs/Kepler", TESTS), ("kepler/specs/Kepler", r"^resultRow .*= positionComponents (9)"), ("theta/specs/Theta", TESTS), ("apsides/specs/Apsides", TESTS)],

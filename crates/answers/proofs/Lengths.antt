@@ -52,11 +52,11 @@ tried-fits (T.Refused n) = refused-fits (triedNumber (T.Refused n))
 
 pub timed-fits : (a : TransferTime) → size (timedPieces a) ≤ 512
 timed-fits (Ti.Time x) = omega (arith, one-short (ascii "time") (x .time))
-timed-fits Ti.TooLong = refused-fits (Theta.numberOf Ti.TooLong)
-timed-fits Ti.TooShort = refused-fits (Theta.numberOf Ti.TooShort)
-timed-fits (Ti.Refused n) = refused-fits (Theta.numberOf (Ti.Refused n))
+timed-fits Ti.TooLong = refused-fits (Theta.transferTimeNumber Ti.TooLong)
+timed-fits Ti.TooShort = refused-fits (Theta.transferTimeNumber Ti.TooShort)
+timed-fits (Ti.Refused n) = refused-fits (Theta.transferTimeNumber (Ti.Refused n))
 
 pub apsides-fits : (a : Apsides) → size (apsidesPieces a) ≤ 512
 apsides-fits (Ap.Closed near far) = omega (arith, closed-short near far)
 apsides-fits (Ap.Open near) = omega (arith, one-short (ascii "open near") near)
-apsides-fits (Ap.Refused n) = refused-fits (Periapo.numberOf (Ap.Refused n))
+apsides-fits (Ap.Refused n) = refused-fits (Periapo.apsidesNumber (Ap.Refused n))

@@ -49,12 +49,12 @@ triedPieces (T.Refused n) = refusedPieces (triedNumber (T.Refused n))
 -- `time D bits X`
 abbrev pub timedPieces : TransferTime → List (List ℕ)
 timedPieces (Ti.Time x) = onePieces (ascii "time") (x .time)
-timedPieces Ti.TooLong = refusedPieces (Theta.numberOf Ti.TooLong)
-timedPieces Ti.TooShort = refusedPieces (Theta.numberOf Ti.TooShort)
-timedPieces (Ti.Refused n) = refusedPieces (Theta.numberOf (Ti.Refused n))
+timedPieces Ti.TooLong = refusedPieces (Theta.transferTimeNumber Ti.TooLong)
+timedPieces Ti.TooShort = refusedPieces (Theta.transferTimeNumber Ti.TooShort)
+timedPieces (Ti.Refused n) = refusedPieces (Theta.transferTimeNumber (Ti.Refused n))
 
 -- `closed near D far D bits X X`, `open near D bits X`
 abbrev pub apsidesPieces : Apsides → List (List ℕ)
 apsidesPieces (Ap.Closed near far) = closedPieces near far
 apsidesPieces (Ap.Open near) = onePieces (ascii "open near") near
-apsidesPieces (Ap.Refused n) = refusedPieces (Periapo.numberOf (Ap.Refused n))
+apsidesPieces (Ap.Refused n) = refusedPieces (Periapo.apsidesNumber (Ap.Refused n))

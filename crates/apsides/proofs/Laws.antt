@@ -30,7 +30,7 @@ use Rattle.conic.specs.Conic.{straightRow}
 use Rattle.apsides.specs.declared.Shape.{Shape}
 use Rattle.apsides.specs.declared.Apsides.{Apsides}
 use Rattle.apsides.specs.declared.Apsides.the-variants.{Closed, Open, Refused}
-use Rattle.apsides.specs.Apsides.{radicandOf, shapeOf, derivedRow, apsidesTests, distancesOf, answered, apsidesOf, numberOf}
+use Rattle.apsides.specs.Apsides.{radicandOf, shapeOf, derivedRow, apsidesTests, distancesOf, answered, apsidesOf, apsidesNumber}
 
 -- ---- 1 + e is finite and 1 or more, for an e under 2^3 that is not below zero
 
@@ -97,16 +97,16 @@ dividend (fin s m e) y h = refl
 
 -- ---- the answer's number
 
-distances-number : (d : Shape) → numberOf (distancesOf d) ≡ 0
-unfolding distancesOf numberOf
+distances-number : (d : Shape) → apsidesNumber (distancesOf d) ≡ 0
+unfolding distancesOf apsidesNumber
 distances-number d = go (f0 <ᶠ d .alpha && f0 <ᶠ f1 ⊖ d .e && d .p ⊘ (f1 ⊖ d .e) <ᶠ two^ 29)
   where
-    go : (b : Bool) → numberOf (cond b (Closed (d .p ⊘ (f1 ⊕ d .e)) (d .p ⊘ (f1 ⊖ d .e))) (Open (d .p ⊘ (f1 ⊕ d .e)))) ≡ 0
+    go : (b : Bool) → apsidesNumber (cond b (Closed (d .p ⊘ (f1 ⊕ d .e)) (d .p ⊘ (f1 ⊖ d .e))) (Open (d .p ⊘ (f1 ⊕ d .e)))) ≡ 0
     go true = refl
     go false = refl
 
-pub answered-number : (t : Test) (d : Shape) → numberOf (answered t d) ≡ Tests.numberOf t
-unfolding answered numberOf Tests.numberOf
+pub answered-number : (t : Test) (d : Shape) → apsidesNumber (answered t d) ≡ Tests.testNumber t
+unfolding answered apsidesNumber Tests.testNumber
 answered-number Passed d = distances-number d
 answered-number (Failed e) d = refl
 
@@ -115,16 +115,16 @@ module _ (mu : Float) (s : State) where
   tests = apsidesTests mu s (shapeOf mu s)
 
   -- the number of the first row that applies, in the order of the table
-  pub apsides-table : numberOf (apsidesOf mu s) ≡ firstRow tableOrder tests
+  pub apsides-table : apsidesNumber (apsidesOf mu s) ≡ firstRow tableOrder tests
   apsides-table = answered-number (firstFailing tests) (shapeOf mu s) ∙ first-row tableOrder tests refl
 
   -- an input that is infinite or not a number is refused with 1, whatever else holds
-  pub apsides-not-finite : (finite mu && allFinite (positionOf s) && allFinite (velocityOf s)) ≡ false → numberOf (apsidesOf mu s) ≡ 1
+  pub apsides-not-finite : (finite mu && allFinite (positionOf s) && allFinite (velocityOf s)) ≡ false → apsidesNumber (apsidesOf mu s) ≡ 1
   apsides-not-finite h =
       let behind : List Entry = stateRows mu s (shapeOf mu s .r1) ++ derivedRow (shapeOf mu s) ++ straightRow (shapeOf mu s .pn) in
       answered-number (firstFailing tests) (shapeOf mu s)
       ∙ row-then 1 (finiteInputs mu Position (positionOf s) Velocity (velocityOf s)) behind refl
-      ∙ ap (λ (b : Bool). cond b (Tests.numberOf (firstFailing behind)) 1) (inputs-finite mu Position Velocity (positionOf s) (velocityOf s) ∙ h)
+      ∙ ap (λ (b : Bool). cond b (Tests.testNumber (firstFailing behind)) 1) (inputs-finite mu Position Velocity (positionOf s) (velocityOf s) ∙ h)
 
 -- ---- no answer holds a NaN
 

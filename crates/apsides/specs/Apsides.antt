@@ -62,7 +62,7 @@ abbrev pub apsidesOf : Float → State → Apsides
 apsidesOf mu s = answered (firstFailing (apsidesTests mu s (shapeOf mu s))) (shapeOf mu s)
 
 -- the refusal's number, and 0 for an answer
-unfoldable pub numberOf : Apsides → ℕ
-numberOf (Closed near far) = 0
-numberOf (Open near) = 0
-numberOf (Refused n) = n
+unfoldable pub apsidesNumber : Apsides → ℕ
+apsidesNumber (Closed near far) = 0
+apsidesNumber (Open near) = 0
+apsidesNumber (Refused n) = n

@@ -12,7 +12,7 @@ use Rattle.figures.proofs.Lengths.{bits-short}
 use Rattle.iterator.specs.declared.Judgement.{Judgement}
 use Rattle.iterator.specs.declared.Judgement.the-variants.{Low, High, Under, Over}
 use Rattle.iterator.specs.declared.Bracket.{Bracket}
-use Rattle.brackets.specs.Brackets.{judgementPieces, endPieces, fromPieces, stoppedPieces}
+use Rattle.brackets.specs.Brackets.{judgementPieces, bracketEndPieces, fromPieces, stoppedPieces}
 
 pub judgement-short : (j : Judgement) → size (judgementPieces j) ≤ 22
 unfolding concat judgementPieces
@@ -21,8 +21,8 @@ judgement-short (High t) = simp length-append (omega (arith, bits-short t))
 judgement-short Under = lit≤ tt
 judgement-short Over = lit≤ tt
 
-pub place-judged : (n : ℤ) (j : Judgement) → size (endPieces n j) ≤ 45
-unfolding concat endPieces
+pub place-judged : (n : ℤ) (j : Judgement) → size (bracketEndPieces n j) ≤ 45
+unfolding concat bracketEndPieces
 place-judged n j = simp length-append (omega (arith, signed-short n, judgement-short j))
 
 from-short : (b : Bracket) → size (fromPieces b) ≤ 116

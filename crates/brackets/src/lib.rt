@@ -1,6 +1,6 @@
 // A bracket as text, put into a lent buffer at a place: what stands behind `from` can be put behind the request as it is.
 ghost use Rattle.text.specs.Pieces.{Laid};
-ghost use Rattle.brackets.specs.Brackets.{judgementPieces, endPieces, fromPieces, stoppedPieces};
+ghost use Rattle.brackets.specs.Brackets.{judgementPieces, bracketEndPieces, fromPieces, stoppedPieces};
 use iterator::Bracket;
 use iterator::Judgement;
 
@@ -22,7 +22,7 @@ pub fn judgement(buf: &mut [u8], at: usize, j: Judgement) -> usize
 }
 
 fn end(buf: &mut [u8], at: usize, n: i64, j: Judgement) -> usize
-    ensures { λ r. ⌜ Laid (now (buf .entry)) at (endPieces n j) (now (buf .exit)) r ⌝ }
+    ensures { λ r. ⌜ Laid (now (buf .entry)) at (bracketEndPieces n j) (now (buf .exit)) r ⌝ }
 {
     let a = text::byte(buf, at, b' ');
     let b = text::signed(buf, a, n);

@@ -58,7 +58,7 @@ use Rattle.burn.specs.declared.Brought.{Brought}
 use Rattle.burn.specs.declared.Brought.the-variants as B
 use Rattle.burn.specs.declared.Burn.{Burn}
 use Rattle.burn.specs.declared.Burn.the-variants.{Closed, Open, Refused}
-use Rattle.burn.specs.Burn.{keptOf, movedOf, movedFor, movedBy, atTime, inLineOf, clearOf, judgedOf, changedOf, spedOf, bound, besideOf, aboveOf, fromPoint, fromPassive, fromActive, radiusAllowed, burnOf}
+use Rattle.burn.specs.Burn.{keptOf, movedOf, movedFor, movedBy, atTime, inLineOf, clearOf, clearedOf, changedOf, spedOf, bound, besideOf, coellipticOf, fromPoint, fromPassive, fromActive, radiusAllowed, burnOf}
 
 -- ---- a difference of two finite numbers is no NaN
 
@@ -81,27 +81,27 @@ difference-clean (fin s m e) (fin t n d) h k = sum-no-nan s (not t) (m * up e * 
 
 -- ---- a state that is moved is finite
 
-found : (a : Advanced) (z : State) → keptOf a ≡ B.At z → (x : Solution) × ((w : ℕ) × (a ≡ Ad.Found z x w))
+found : (a : Advanced) (z : State) → keptOf a ≡ B.Moved z → (x : Solution) × ((w : ℕ) × (a ≡ Ad.Found z x w))
 unfolding keptOf
 found (Ad.Found s x w) z e = (x, (w, ap (λ (y : State). Ad.Found y x w) (same s z e)))
   where
-    same : (s z : State) → B.At s ≡ B.At z → s ≡ z
+    same : (s z : State) → B.Moved s ≡ B.Moved z → s ≡ z
     same s z e = cc
 found Ad.TooLong z e = let n : _≡_ {A = ℕ} 0 1 = cc in absurd (zero-one n)
 found (Ad.NotFinished b) z e = let n : _≡_ {A = ℕ} 0 1 = cc in absurd (zero-one n)
 found (Ad.Refused m) z e = let n : _≡_ {A = ℕ} 0 1 = cc in absurd (zero-one n)
 
-moved-finite : (mu : Float) (s : State) (t : Float) (z : State) → movedOf mu s t ≡ B.At z → FiniteState z
+moved-finite : (mu : Float) (s : State) (t : Float) (z : State) → movedOf mu s t ≡ B.Moved z → FiniteState z
 unfolding movedOf
 moved-finite mu s t z e =
     let f = found (advanceOf mu s t) z e in
     advance-finite mu s t z (f .0) (f .1 .0) (f .1 .1) .0
 
-at-finite : (mu : Float) (s : State) (from to : ℤ) (z : State) → atTime mu s from to ≡ B.At z → FiniteState z
+at-finite : (mu : Float) (s : State) (from to : ℤ) (z : State) → atTime mu s from to ≡ B.Moved z → FiniteState z
 unfolding atTime movedFor
 at-finite mu s from to z e = go (elapsedOf from to) e
   where
-    go : (x : Elapsed) → movedFor mu s x ≡ B.At z → FiniteState z
+    go : (x : Elapsed) → movedFor mu s x ≡ B.Moved z → FiniteState z
     go (Cs t) h = moved-finite mu s t z h
     go TooLong h = let n : _≡_ {A = ℕ} 0 1 = cc in absurd (zero-one n)
 
@@ -152,7 +152,7 @@ moved-other mu s t n e h =
     (pick (timed (l .above)) (cond r 0 9) 7 (pick r 0 9 (ne 0 refl) (ne 9 refl)) (ne 7 refl))
     (ne 8 refl)
     in
-    pick (passes (firstFailing tests)) (afterTrials (l .below) (l .above) r) (Tests.numberOf (firstFailing tests)) ended
+    pick (passes (firstFailing tests)) (afterTrials (l .below) (l .above) r) (Tests.testNumber (firstFailing tests)) ended
     (λ q. row-other tests (sym (kepler-table mu s t m) ∙ q))
     (sym (advance-number mu s t) ∙ kept-number (advanceOf mu s t) n e ∙ h)
 
@@ -164,25 +164,25 @@ at-other mu s from to n e h = go (elapsedOf from to) e
     go (Cs t) q = moved-other mu s t n q h
     go TooLong q = ne 5 refl (inject 5 n q ∙ h)
 
-told-other : (s : State) (r : Reached) (n : ℕ) → Theta.toldOf s r ≡ Th.Refused n → ⊥
-unfolding Theta.toldOf
+told-other : (s : State) (r : Reached) (n : ℕ) → Theta.transferTimeBy s r ≡ Th.Refused n → ⊥
+unfolding Theta.transferTimeBy
 told-other s (R.Time t) n e = let z : _≡_ {A = ℕ} 0 1 = cc in absurd (zero-one z)
 told-other s (R.Under q) n e = let z : _≡_ {A = ℕ} 0 1 = cc in absurd (zero-one z)
 told-other s (R.Over q) n e = let z : _≡_ {A = ℕ} 0 1 = cc in absurd (zero-one z)
 
 theta-other : (mu : Float) (s : State) (sin cos : Float) (n : ℕ) → Theta.thetaOf mu s sin cos ≡ Th.Refused n → n ≡ 28 → ⊥
-unfolding Theta.answered Tests.numberOf
+unfolding Theta.answered Tests.testNumber
 theta-other mu s sin cos n e h = go (firstFailing (Theta.thetaTests mu s sin cos (Theta.sweepOf mu s sin cos))) refl e
   where
     same : (i j : ℕ) → Th.Refused i ≡ Th.Refused j → i ≡ j
     same i j q = cc
 
     go : (t : Test) → firstFailing (Theta.thetaTests mu s sin cos (Theta.sweepOf mu s sin cos)) ≡ t
-        → Theta.answered t (Theta.toldOf s (reachOf (Theta.arcOf mu (Theta.sweepOf mu s sin cos)))) ≡ Th.Refused n → ⊥
+        → Theta.answered t (Theta.transferTimeBy s (reachOf (Theta.arcOf mu (Theta.sweepOf mu s sin cos)))) ≡ Th.Refused n → ⊥
     go Passed p q = told-other s (reachOf (Theta.arcOf mu (Theta.sweepOf mu s sin cos))) n q
     go (Failed f) p q =
         row-other (Theta.thetaTests mu s sin cos (Theta.sweepOf mu s sin cos))
-        (sym (first-row tableOrder (Theta.thetaTests mu s sin cos (Theta.sweepOf mu s sin cos)) refl) ∙ ap Tests.numberOf p ∙ same (f .number) n q ∙ h)
+        (sym (first-row tableOrder (Theta.thetaTests mu s sin cos (Theta.sweepOf mu s sin cos)) refl) ∙ ap Tests.testNumber p ∙ same (f .number) n q ∙ h)
 
 line-other : (mu : Float) (s : State) (g : Angle) → Other (inLineOf mu s g)
 unfolding inLineOf movedBy
@@ -195,8 +195,8 @@ line-other mu s g n e h = go (Theta.thetaOf mu s (g .sin) (g .cos)) refl e
     go (Th.Refused m) p q = theta-other mu s (g .sin) (g .cos) m p (inject m n q ∙ h)
 
 apsides-other : (mu : Float) (s : State) (n : ℕ) → apsidesOf mu s ≡ Ap.Refused n → n ≡ 28 → ⊥
-unfolding ApsidesOf.numberOf
-apsides-other mu s n e h = row-other (apsidesTests mu s (shapeOf mu s)) (sym (Apsides.apsides-table mu s) ∙ ap ApsidesOf.numberOf e ∙ h)
+unfolding ApsidesOf.apsidesNumber
+apsides-other mu s n e h = row-other (apsidesTests mu s (shapeOf mu s)) (sym (Apsides.apsides-table mu s) ∙ ap ApsidesOf.apsidesNumber e ∙ h)
 
 -- ---- what holds of every refusal with another number, and of the apsides after a change of a finite state, holds of the answer
 
@@ -218,8 +218,8 @@ module _ (k : Centre) (P : Burn → Type 0) (no : (n : ℕ) → (n ≡ 28 → �
       go false = no 26 (ne 26 refl)
 
   point : (a : State) (c : Brought) → FiniteState a → Other c → P (fromPoint k a c)
-  unfolding fromPoint aboveOf
-  point a (B.At c) f o =
+  unfolding fromPoint coellipticOf
+  point a (B.Moved c) f o =
       let p = passiveOf (k .mu) c in
       let rA = lengthOf (positionOf a) in
       beside a p rA (axisOf p rA) f
@@ -227,12 +227,12 @@ module _ (k : Centre) (P : Burn → Type 0) (no : (n : ℕ) → (n ≡ 28 → �
 
   second : (a : State) (p : Brought) → FiniteState a → Other p → P (fromPassive k a p)
   unfolding fromPassive
-  second a (B.At p) f o = point a (inLineOf (k .mu) p (angleOf a p)) f (line-other (k .mu) p (angleOf a p))
+  second a (B.Moved p) f o = point a (inLineOf (k .mu) p (angleOf a p)) f (line-other (k .mu) p (angleOf a p))
   second a (B.Refused n) f o = no n (o n refl)
 
-  both : (a p : Brought) → ((z : State) → a ≡ B.At z → FiniteState z) → Other a → Other p → P (fromActive k a p)
+  both : (a p : Brought) → ((z : State) → a ≡ B.Moved z → FiniteState z) → Other a → Other p → P (fromActive k a p)
   unfolding fromActive
-  both (B.At a) p f o q = second a p (f a refl) q
+  both (B.Moved a) p f o q = second a p (f a refl) q
   both (B.Refused n) p f o q = no n (o n refl)
 
   pub through : (active : State) (ta : ℤ) (passive : State) (tp t2 t3 : ℤ) → P (burnOf k active ta passive tp t2 t3)
@@ -255,8 +255,8 @@ Clean (Closed d near far) = NoNan d × ((isNan near ≡ false) × (isNan far ≡
 Clean (Open d near) = NoNan d × (isNan near ≡ false)
 Clean (Refused n) = Prim.Unit
 
-judged-clean : (k : Centre) (d : Vector) (a : Apsides) → Apsides.Clean a → NoNan d → Clean (judgedOf k d a)
-unfolding judgedOf
+judged-clean : (k : Centre) (d : Vector) (a : Apsides) → Apsides.Clean a → NoNan d → Clean (clearedOf k d a)
+unfolding clearedOf
 judged-clean k d (Ap.Closed near far) c h = go (clearOf k near)
   where
     go : (b : Bool) → Clean (cond b (Closed d near far) (Refused 28))
@@ -281,11 +281,11 @@ new-finite mu r new h =
     velocity-finite 4 Velocity new (met-right (muRow mu ++ P) W (met-right I (muRow mu ++ P ++ W) rows))
 
 changed-clean : (k : Centre) (a : State) (new : Vector) → FiniteState a → Clean (changedOf k a new)
-unfolding changedOf answered judgedOf
+unfolding changedOf answered clearedOf
 changed-clean k a new f = go (firstFailing (apsidesTests (k .mu) (stateOf (positionOf a) new) (shapeOf (k .mu) (stateOf (positionOf a) new)))) refl
   where
     go : (t : Test) → firstFailing (apsidesTests (k .mu) (stateOf (positionOf a) new) (shapeOf (k .mu) (stateOf (positionOf a) new))) ≡ t
-        → Clean (judgedOf k (differenceOf new (velocityOf a)) (answered t (shapeOf (k .mu) (stateOf (positionOf a) new))))
+        → Clean (clearedOf k (differenceOf new (velocityOf a)) (answered t (shapeOf (k .mu) (stateOf (positionOf a) new))))
     go Passed e =
         let s = stateOf (positionOf a) new in
         let n = new-finite (k .mu) (positionOf a) new e in
@@ -305,8 +305,8 @@ High k (Closed d near far) = clearOf k near ≡ true
 High k (Open d near) = clearOf k near ≡ true
 High k (Refused n) = Prim.Unit
 
-judged-high : (k : Centre) (d : Vector) (a : Apsides) → High k (judgedOf k d a)
-unfolding judgedOf
+judged-high : (k : Centre) (d : Vector) (a : Apsides) → High k (clearedOf k d a)
+unfolding clearedOf
 judged-high k d (Ap.Closed near far) = go (clearOf k near) refl
   where
     go : (b : Bool) → clearOf k near ≡ b → High k (cond b (Closed d near far) (Refused 28))
@@ -332,8 +332,8 @@ Low k (Ap.Closed near far) = clearOf k near ≡ false
 Low k (Ap.Open near) = clearOf k near ≡ false
 Low k (Ap.Refused n) = ⊥
 
-judged-low : (k : Centre) (d : Vector) (a : Apsides) → Low k a → judgedOf k d a ≡ Refused 28
-unfolding judgedOf
+judged-low : (k : Centre) (d : Vector) (a : Apsides) → Low k a → clearedOf k d a ≡ Refused 28
+unfolding clearedOf
 judged-low k d (Ap.Closed near far) h = ap (λ (b : Bool). cond b (Closed d near far) (Refused 28)) h
 judged-low k d (Ap.Open near) h = ap (λ (b : Bool). cond b (Open d near) (Refused 28)) h
 judged-low k d (Ap.Refused n) h = absurd h
@@ -350,8 +350,8 @@ TooLow k b = (a : State) × ((new : Vector) × ((b ≡ changedOf k a new) × Low
 refused-same : (m n : ℕ) → Refused m ≡ Refused n → m ≡ n
 refused-same m n e = cc
 
-judged-28 : (k : Centre) (d : Vector) (mu : Float) (s : State) (a : Apsides) → apsidesOf mu s ≡ a → judgedOf k d a ≡ Refused 28 → Low k a
-unfolding judgedOf
+judged-28 : (k : Centre) (d : Vector) (mu : Float) (s : State) (a : Apsides) → apsidesOf mu s ≡ a → clearedOf k d a ≡ Refused 28 → Low k a
+unfolding clearedOf
 judged-28 k d mu s (Ap.Closed near far) e h = go (clearOf k near) h
   where
     go : (b : Bool) → cond b (Closed d near far) (Refused 28) ≡ Refused 28 → b ≡ false

@@ -37,7 +37,7 @@ use Rattle.burn.specs.declared.Burn.the-variants.{Closed, Open, Refused}
 
 -- Kepler's state, or its number
 unfoldable pub keptOf : Advanced → Brought
-keptOf (Ad.Found s x w) = B.At s
+keptOf (Ad.Found s x w) = B.Moved s
 keptOf Ad.TooLong = B.Refused 7
 keptOf (Ad.NotFinished s) = B.Refused 29
 keptOf (Ad.Refused n) = B.Refused n
@@ -73,14 +73,14 @@ unfoldable pub clearOf : Centre → Float → Bool
 clearOf k near = marginOf (k .body) <ᶠ near ⊖ k .radius
 
 -- 28 unless the pericentre is high enough
-unfoldable pub judgedOf : Centre → Vector → Apsides → Burn
-judgedOf k change (Ap.Closed near far) = cond (clearOf k near) (Closed change near far) (Refused 28)
-judgedOf k change (Ap.Open near) = cond (clearOf k near) (Open change near) (Refused 28)
-judgedOf k change (Ap.Refused n) = Refused n
+unfoldable pub clearedOf : Centre → Vector → Apsides → Burn
+clearedOf k change (Ap.Closed near far) = cond (clearOf k near) (Closed change near far) (Refused 28)
+clearedOf k change (Ap.Open near) = cond (clearOf k near) (Open change near) (Refused 28)
+clearedOf k change (Ap.Refused n) = Refused n
 
 -- 5, 6: change = new − vA', and the apsides of A's position and the new velocity
 unfoldable pub changedOf : Centre → State → Vector → Burn
-changedOf k active new = judgedOf k (differenceOf new (velocityOf active)) (apsidesOf (k .mu) (stateOf (positionOf active) new))
+changedOf k active new = clearedOf k (differenceOf new (velocityOf active)) (apsidesOf (k .mu) (stateOf (positionOf active) new))
 
 -- 4: 27 unless the radicand is at least 0
 unfoldable pub spedOf : Centre → State → Speeds → Burn
@@ -93,22 +93,22 @@ bound p aA = f0 <ᶠ p .alpha && f0 <ᶠ p .a && f0 <ᶠ aA
 unfoldable pub besideOf : Centre → State → Passive → Float → Float → Burn
 besideOf k active p rA aA = cond (bound p aA) (spedOf k active (speedsOf (k .mu) p rA aA)) (Refused 26)
 
-unfoldable pub aboveOf : Centre → State → Passive → Burn
-aboveOf k active p =
+unfoldable pub coellipticOf : Centre → State → Passive → Burn
+coellipticOf k active p =
     let rA = lengthOf (positionOf active) in
     besideOf k active p rA (axisOf p rA)
 
 -- from the point in line, from the passive vehicle at T2, and from the active one
 unfoldable pub fromPoint : Centre → State → Brought → Burn
-fromPoint k active (B.At c) = aboveOf k active (passiveOf (k .mu) c)
+fromPoint k active (B.Moved c) = coellipticOf k active (passiveOf (k .mu) c)
 fromPoint k active (B.Refused n) = Refused n
 
 unfoldable pub fromPassive : Centre → State → Brought → Burn
-fromPassive k active (B.At p) = fromPoint k active (inLineOf (k .mu) p (angleOf active p))
+fromPassive k active (B.Moved p) = fromPoint k active (inLineOf (k .mu) p (angleOf active p))
 fromPassive k active (B.Refused n) = Refused n
 
 unfoldable pub fromActive : Centre → Brought → Brought → Burn
-fromActive k (B.At a) passive = fromPassive k a passive
+fromActive k (B.Moved a) passive = fromPassive k a passive
 fromActive k (B.Refused n) passive = Refused n
 
 -- 22: the radius is over 0 and under 2^29
@@ -124,7 +124,7 @@ burnOf k active ta passive tp t2 t3 =
     (Refused 22))
 
 -- the refusal's number, and 0 for an answer
-unfoldable pub numberOf : Burn → ℕ
-numberOf (Closed change near far) = 0
-numberOf (Open change near) = 0
-numberOf (Refused n) = n
+unfoldable pub burnNumber : Burn → ℕ
+burnNumber (Closed change near far) = 0
+burnNumber (Open change near) = 0
+burnNumber (Refused n) = n

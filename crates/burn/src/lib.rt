@@ -11,7 +11,7 @@ use theta::TransferTime;
 use vector::State;
 use vector::Vector;
 ghost use mathlib.Core.Path.{_≡_};
-ghost use Rattle.burn.specs.Burn.{keptOf, movedOf, atTime, inLineOf, marginOf, clearOf, judgedOf, changedOf, spedOf, besideOf, aboveOf, fromPoint, fromPassive, radiusAllowed, burnOf};
+ghost use Rattle.burn.specs.Burn.{keptOf, movedOf, atTime, inLineOf, marginOf, clearOf, clearedOf, changedOf, spedOf, besideOf, coellipticOf, fromPoint, fromPassive, radiusAllowed, burnOf};
 
 // The body, 0 the earth and 1 the moon, its surface radius, and mu.
 pub struct Centre {
@@ -29,7 +29,7 @@ pub enum Burn {
 
 // A state moved along its orbit, or the number of the refusal.
 enum Brought {
-    At(State),
+    Moved(State),
     Refused(u32),
 }
 
@@ -38,7 +38,7 @@ fn kept(a: Advanced) -> Brought
     ensures { λ r. ⌜ r ≡ keptOf a ⌝ }
 {
     match a {
-        Advanced::Found(s, _, _) => Brought::At(s),
+        Advanced::Found(s, _, _) => Brought::Moved(s),
         Advanced::TooLong => Brought::Refused(7),
         Advanced::NotFinished(_) => Brought::Refused(29),
         Advanced::Refused(n) => Brought::Refused(n),
@@ -91,7 +91,7 @@ fn is_clear(k: Centre, near: f64) -> bool
 
 // The answer, unless the apsides are refused or the pericentre is too low.
 fn judged(k: Centre, change: Vector, a: Apsides) -> Burn
-    ensures { λ r. ⌜ r ≡ judgedOf k change a ⌝ }
+    ensures { λ r. ⌜ r ≡ clearedOf k change a ⌝ }
 {
     match a {
         Apsides::Closed(near, far) => {
@@ -139,7 +139,7 @@ fn beside(k: Centre, active: State, p: Passive, ra: f64, aa: f64) -> Burn
 }
 
 fn above(k: Centre, active: State, p: Passive) -> Burn
-    ensures { λ r. ⌜ r ≡ aboveOf k active p ⌝ }
+    ensures { λ r. ⌜ r ≡ coellipticOf k active p ⌝ }
 {
     let ra = vector::length(vector::position(active));
     beside(k, active, p, ra, coelliptic::axis(p, ra))
@@ -149,7 +149,7 @@ fn from_point(k: Centre, active: State, c: Brought) -> Burn
     ensures { λ r. ⌜ r ≡ fromPoint k active c ⌝ }
 {
     match c {
-        Brought::At(s) => above(k, active, coelliptic::passive_of(k.mu, s)),
+        Brought::Moved(s) => above(k, active, coelliptic::passive_of(k.mu, s)),
         Brought::Refused(n) => Burn::Refused(n),
     }
 }
@@ -158,7 +158,11 @@ fn from_passive(k: Centre, active: State, p: Brought) -> Burn
     ensures { λ r. ⌜ r ≡ fromPassive k active p ⌝ }
 {
     match p {
-        Brought::At(s) => from_point(k, active, in_line(k.mu, s, coelliptic::angle_of(active, s))),
+        Brought::Moved(s) => from_point(
+            k,
+            active,
+            in_line(k.mu, s, coelliptic::angle_of(active, s)),
+        ),
         Brought::Refused(n) => Burn::Refused(n),
     }
 }
@@ -195,7 +199,7 @@ pub fn constant_height(
         return Burn::Refused(25);
     }
     match at_time(k.mu, active, ta, t2) {
-        Brought::At(a) => from_passive(k, a, at_time(k.mu, passive, tp, t2)),
+        Brought::Moved(a) => from_passive(k, a, at_time(k.mu, passive, tp, t2)),
         Brought::Refused(n) => Burn::Refused(n),
     }
 }

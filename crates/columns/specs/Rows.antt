@@ -3,13 +3,13 @@ use Prim.Native.Nat.{ℕ}
 use mathlib.Core.List.{List, [], _∷_, _++_}
 use lib.Ieee.{Float}
 use Rattle.text.specs.Text.{ascii, decimal}
-use Rattle.figures.specs.Figures.{fixedOf, bitsOf}
+use Rattle.figures.specs.Figures.{fixedOf, bitsText}
 use Rattle.columns.specs.declared.Style.{Style}
 use Rattle.columns.specs.declared.Style.the-variants.{Places, Bits}
 
 unfoldable pub figureText : Style → Float → List ℕ
 figureText Places x = fixedOf x
-figureText Bits x = bitsOf x
+figureText Bits x = bitsText x
 
 unfoldable pub rowPieces : Style → List Float → List (List ℕ)
 rowPieces style [] = []

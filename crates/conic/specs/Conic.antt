@@ -19,7 +19,7 @@ use Rattle.vector.specs.Vectors.{dotOf}
 use Rattle.table.specs.Tests.{entry}
 use Rattle.conic.specs.declared.Orbit.{Orbit}
 use Rattle.conic.specs.declared.Trial.{Trial}
-use Rattle.conic.specs.declared.Trial.the-variants.{At, Out}
+use Rattle.conic.specs.declared.Trial.the-variants.{Numbers, Stopped}
 
 -- n·2^-20
 abbrev pub gridOf : ℤ → Float
@@ -65,8 +65,8 @@ outsideOf xi = cond (leastXi ≤ᶠ xi) (rangeTest 7 Xi xi (AtMost mostXi)) (ran
 
 -- the trial's numbers from c and s: none where ξ is outside its range
 unfoldable pub trialOf : Orbit → Float → Float → Both → Trial
-trialOf o x xi (Refused n) = Out (outsideOf xi)
-trialOf o x xi (Values p) = At (record { x = x; z = x ⊗ x; xi = xi; c = p .c; s = p .s; t = timeOf o x (x ⊗ x) (p .c) (p .s) })
+trialOf o x xi (Refused n) = Stopped (outsideOf xi)
+trialOf o x xi (Values p) = Numbers (record { x = x; z = x ⊗ x; xi = xi; c = p .c; s = p .s; t = timeOf o x (x ⊗ x) (p .c) (p .s) })
 
 unfoldable pub pointAt : Orbit → Float → Float → Trial
 pointAt o x xi = trialOf o x xi (bothAnswer xi)

@@ -30,8 +30,8 @@ pub struct Point {
 
 // A trial's numbers, or the range test of ξ that fails.
 pub enum Trial {
-    At(Point),
-    Out(Entry),
+    Numbers(Point),
+    Stopped(Entry),
 }
 
 // n·2^-20: the grid of Kepler's x and of Lambert's cot.
@@ -119,10 +119,10 @@ pub fn point_at(o: Orbit, x: f64, xi: f64) -> Trial
 {
     let z = x * x;
     let Both::Values(p) = series::c_and_s(xi) else {
-        return Trial::Out(outside(xi));
+        return Trial::Stopped(outside(xi));
     };
     let t = time(o, x, z, p.c, p.s);
-    Trial::At(Point {
+    Trial::Numbers(Point {
         x,
         z,
         xi,

@@ -3,7 +3,6 @@
 // error and nothing is answered. The work is in `reply`; this reads the settings and the lines.
 use libc::STDERR_FILENO;
 use libc::STDIN_FILENO;
-use libc::STDOUT_FILENO;
 use split::Found;
 use text::Made;
 ghost use Prim.Native.Nat.{_≤_};
@@ -16,22 +15,11 @@ const KEPT: usize = 1001;
 // Likewise of the settings, which have at most 64 versions of 44 bytes.
 const USED: usize = 2817;
 
-// Writes the front of a buffer to standard output, and answers whether that went well; else standard error says so.
-fn write(out: &[u8], n: usize) -> bool
-    requires { ⌜ n ≤ length (now out) ⌝ }
-{
-    let is_written = io::write_all(STDOUT_FILENO, &out[..n]);
-    if !is_written {
-        os::fail(b"standard output");
-    }
-    is_written
-}
-
 // Writes the reply to a line, and answers whether that went well. 512 bytes have room for every reply.
 fn answer(used: &[u8], line: &[u8]) -> bool {
     let mut out = [0u8; 512];
     match reply::reply(used, line, &mut out) {
-        Made::Line(n) => write(&out, n),
+        Made::Line(n) => console::print(&out[..n]),
         Made::Refused(_) => false,
     }
 }
@@ -102,15 +90,10 @@ fn serve(used: &[u8]) {
 // The same by the settings in a file that is open.
 fn serve_by(fd: i32, name: &[u8]) {
     let mut buf = [0u8; USED];
-    let used = io::read_full(fd, &mut buf);
-    if used < USED {
-        let mut more = [0u8; 1];
-        if libc::read(fd, &mut more) != 0 {
-            os::fail(name);
-            return;
-        }
+    let input = console::read_whole(fd, name, &mut buf);
+    if !input.failed {
+        serve(&buf[..input.length]);
     }
-    serve(&buf[..used]);
 }
 
 fn main() {
@@ -124,20 +107,10 @@ fn main() {
         return;
     }
     let mut path = io::buffer();
-    let n = os::arg(1, &mut path);
-    if os::errno() != 0 {
-        os::fail(b"desk: file name");
+    let file = console::open_named(&mut path);
+    if file.fd < 0 {
         return;
     }
-    if n == 0 {
-        io::write_all(STDERR_FILENO, b"desk: the file name is empty\n");
-        return;
-    }
-    let fd = os::open_read(&path[..n]);
-    if fd < 0 {
-        os::fail(&path[..n]);
-        return;
-    }
-    serve_by(fd, &path[..n]);
-    libc::close(fd);
+    serve_by(file.fd, &path[..file.length]);
+    libc::close(file.fd);
 }

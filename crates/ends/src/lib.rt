@@ -1,14 +1,14 @@
 // A bracket's ends as text: an end with its judgement, and the line of what is amiss with a bracket to go on from.
 ghost use mathlib.Core.List.{_∷_};
 ghost use Rattle.text.specs.Pieces.{Laid};
-ghost use Rattle.brackets.specs.Brackets.{endPieces};
+ghost use Rattle.brackets.specs.Brackets.{bracketEndPieces};
 ghost use Rattle.ends.specs.Ends.{placePieces, misjudgedPieces, overPieces, amissPieces};
 use iterator::Judgement;
 use reason::Amiss;
 
 // A word, an end's place, and its judgement.
 pub fn end(buf: &mut [u8], at: usize, word: &[u8], n: i64, j: Judgement) -> usize
-    ensures { λ r. ⌜ Laid (now (buf .entry)) at (now (word .entry) ∷ endPieces n j) (now (buf .exit)) r ⌝ }
+    ensures { λ r. ⌜ Laid (now (buf .entry)) at (now (word .entry) ∷ bracketEndPieces n j) (now (buf .exit)) r ⌝ }
 {
     let a = text::bytes(buf, at, word);
     let b = text::byte(buf, a, b' ');

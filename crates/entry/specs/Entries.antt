@@ -12,7 +12,7 @@ use lib.Dec.{eqb, ltb}
 use lib.IntN.{ℤ}
 use Rattle.text.specs.Text.{ascii}
 use Rattle.words.specs.Words.{wordAt, startsWith, isWord, isEnd}
-use Rattle.numerals.specs.Numbers.{wholeOf, signedOf}
+use Rattle.numerals.specs.Numbers.{wordWhole, wordSigned}
 use Rattle.numerals.specs.declared.digits.Signed.{Signed}
 use Rattle.numerals.specs.declared.digits.Signed.the-variants as S
 use Rattle.numerals.specs.declared.digits.Whole.{Whole}
@@ -35,8 +35,8 @@ abbrev pub offsetBy : Signed → List ℕ → Entry
 offsetBy (S.Read z) line = ended 2 line (Offset z)
 offsetBy S.Unread line = Unread 2
 
-abbrev pub offsetOf : List ℕ → Entry
-offsetOf line = offsetBy (signedOf (wordAt 1 line)) line
+abbrev pub offsetEntry : List ℕ → Entry
+offsetEntry line = offsetBy (wordSigned (wordAt 1 line)) line
 
 -- the body, the position and the velocity behind a time and a vehicle
 abbrev pub stateBy : ℤ → ℕ → Whole → Triple → Triple → List ℕ → Entry
@@ -47,37 +47,37 @@ stateBy t n (W.Read b) (T.Unread w) v line = Unread w
 stateBy t n W.Unread r v line = Unread 4
 
 abbrev pub bodied : ℤ → ℕ → List ℕ → Entry
-bodied t n line = stateBy t n (wholeOf (wordAt 3 line)) (vectorAt 4 line) (vectorAt 7 line) line
+bodied t n line = stateBy t n (wordWhole (wordAt 3 line)) (vectorAt 4 line) (vectorAt 7 line) line
 
 abbrev pub stateFor : Stamp → List ℕ → Entry
 stateFor (St.Read t n) line = bodied t n line
 stateFor (St.Unread w) line = Unread w
 
-abbrev pub stateOf : List ℕ → Entry
-stateOf line = stateFor (stampOf line) line
+abbrev pub stateEntry : List ℕ → Entry
+stateEntry line = stateFor (stampOf line) line
 
 abbrev pub burnBy : Stamp → Triple → List ℕ → Entry
 burnBy (St.Read t n) (T.Read d) line = ended 6 line (Burn t n d)
 burnBy (St.Read t n) (T.Unread w) line = Unread w
 burnBy (St.Unread w) d line = Unread w
 
-abbrev pub burnOf : List ℕ → Entry
-burnOf line = burnBy (stampOf line) (vectorAt 3 line) line
+abbrev pub burnEntry : List ℕ → Entry
+burnEntry line = burnBy (stampOf line) (vectorAt 3 line) line
 
 abbrev pub markBy : Stamp → Pair → List ℕ → Entry
 markBy (St.Read t n) (P.Read x y) line = ended 5 line (Mark t n x y)
 markBy (St.Read t n) (P.Unread w) line = Unread w
 markBy (St.Unread w) p line = Unread w
 
-abbrev pub markOf : List ℕ → Entry
-markOf line = markBy (stampOf line) (pairAt 3 line) line
+abbrev pub markEntry : List ℕ → Entry
+markEntry line = markBy (stampOf line) (pairAt 3 line) line
 
 -- by its name, the line's first word
 abbrev pub namedOf : List ℕ → List ℕ → Entry
 namedOf name line =
-    cond (isWord name (ascii "offset")) (offsetOf line)
-    (cond (isWord name (ascii "state")) (stateOf line)
-    (cond (isWord name (ascii "burn")) (burnOf line) (cond (isWord name (ascii "mark")) (markOf line) (Unread 1))))
+    cond (isWord name (ascii "offset")) (offsetEntry line)
+    (cond (isWord name (ascii "state")) (stateEntry line)
+    (cond (isWord name (ascii "burn")) (burnEntry line) (cond (isWord name (ascii "mark")) (markEntry line) (Unread 1))))
 
 -- a comment, or no word: nothing is said; over 1,000 bytes: no word is read
 unfoldable pub entryOf : List ℕ → Entry

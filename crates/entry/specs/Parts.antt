@@ -3,7 +3,7 @@
 use Prim.Native.Nat.{ℕ, _+_}
 use mathlib.Core.List.{List}
 use Rattle.words.specs.Words.{wordAt}
-use Rattle.numerals.specs.Numbers.{numberOf, wholeOf, signedOf}
+use Rattle.numerals.specs.Numbers.{wordNumber, wordWhole, wordSigned}
 use Rattle.numerals.specs.declared.reals.Number.{Number}
 use Rattle.numerals.specs.declared.reals.Number.the-variants as N
 use Rattle.numerals.specs.declared.digits.Signed.{Signed}
@@ -24,7 +24,7 @@ stamped (S.Read t) W.Unread = St.Unread 3
 stamped S.Unread v = St.Unread 2
 
 abbrev pub stampOf : List ℕ → Stamp
-stampOf line = stamped (signedOf (wordAt 1 line)) (wholeOf (wordAt 2 line))
+stampOf line = stamped (wordSigned (wordAt 1 line)) (wordWhole (wordAt 2 line))
 
 -- two numbers
 abbrev pub paired : ℕ → Number → Number → Pair
@@ -33,7 +33,7 @@ paired k (N.Read x) N.Unread = P.Unread (k + 2)
 paired k N.Unread y = P.Unread (k + 1)
 
 abbrev pub pairAt : ℕ → List ℕ → Pair
-pairAt k line = paired k (numberOf (wordAt k line)) (numberOf (wordAt (k + 1) line))
+pairAt k line = paired k (wordNumber (wordAt k line)) (wordNumber (wordAt (k + 1) line))
 
 -- three numbers
 abbrev pub tripled : ℕ → Pair → Number → Triple
@@ -42,4 +42,4 @@ tripled k (P.Read x y) N.Unread = T.Unread (k + 3)
 tripled k (P.Unread w) z = T.Unread w
 
 abbrev pub vectorAt : ℕ → List ℕ → Triple
-vectorAt k line = tripled k (pairAt k line) (numberOf (wordAt (k + 2) line))
+vectorAt k line = tripled k (pairAt k line) (wordNumber (wordAt (k + 2) line))

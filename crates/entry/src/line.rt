@@ -2,7 +2,7 @@
 ghost use mathlib.Core.Path.{_≡_};
 ghost use Rattle.words.specs.Words.{wordAt};
 ghost use Rattle.entry.specs.Parts.{stampOf, vectorAt};
-ghost use Rattle.entry.specs.Entries.{ended, offsetOf, bodied, stateOf, burnOf, markOf, namedOf, entryOf};
+ghost use Rattle.entry.specs.Entries.{ended, offsetEntry, bodied, stateEntry, burnEntry, markEntry, namedOf, entryOf};
 use crate::parts::Pair;
 use crate::parts::Stamp;
 use crate::parts::Triple;
@@ -51,7 +51,7 @@ fn only(line: &[u8], k: u32, e: Entry) -> Entry
 }
 
 fn offset(line: &[u8]) -> Entry
-    ensures { λ r. ⌜ r ≡ offsetOf (now (line .entry)) ⌝ }
+    ensures { λ r. ⌜ r ≡ offsetEntry (now (line .entry)) ⌝ }
 {
     match numerals::signed_at(line, 1) {
         Signed::Read(minutes) => only(line, 2, Entry::Offset(minutes)),
@@ -95,7 +95,7 @@ fn body(line: &[u8], time: i64, vehicle: u64) -> Entry
 }
 
 fn state(line: &[u8]) -> Entry
-    ensures { λ r. ⌜ r ≡ stateOf (now (line .entry)) ⌝ }
+    ensures { λ r. ⌜ r ≡ stateEntry (now (line .entry)) ⌝ }
 {
     match stamp_at(line) {
         Stamp::Read(time, vehicle) => body(line, time, vehicle),
@@ -104,7 +104,7 @@ fn state(line: &[u8]) -> Entry
 }
 
 fn burn(line: &[u8]) -> Entry
-    ensures { λ r. ⌜ r ≡ burnOf (now (line .entry)) ⌝ }
+    ensures { λ r. ⌜ r ≡ burnEntry (now (line .entry)) ⌝ }
 {
     match stamp_at(line) {
         Stamp::Read(time, vehicle) => match vector_at(line, 3) {
@@ -124,7 +124,7 @@ fn burn(line: &[u8]) -> Entry
 }
 
 fn mark(line: &[u8]) -> Entry
-    ensures { λ r. ⌜ r ≡ markOf (now (line .entry)) ⌝ }
+    ensures { λ r. ⌜ r ≡ markEntry (now (line .entry)) ⌝ }
 {
     match stamp_at(line) {
         Stamp::Read(time, vehicle) => match pair_at(line, 3) {

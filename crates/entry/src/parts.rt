@@ -2,7 +2,7 @@
 // cannot be read, the line's first word being 1.
 ghost use mathlib.Core.Path.{_≡_};
 ghost use Rattle.words.specs.Words.{wordAt};
-ghost use Rattle.numerals.specs.Numbers.{numberOf};
+ghost use Rattle.numerals.specs.Numbers.{wordNumber};
 ghost use Rattle.entry.specs.Parts.{stampOf, pairAt, vectorAt};
 use numerals::Number;
 use numerals::Signed;
@@ -28,7 +28,7 @@ pub enum Triple {
 }
 
 fn number_at(line: &[u8], k: u64) -> Number
-    ensures { λ r. ⌜ r ≡ numberOf (wordAt k (now (line .entry))) ⌝ }
+    ensures { λ r. ⌜ r ≡ wordNumber (wordAt k (now (line .entry))) ⌝ }
 {
     numerals::read_number(words::word(line, k))
 }

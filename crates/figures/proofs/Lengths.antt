@@ -11,7 +11,7 @@ use lib.Ieee.{Float, nan, inf, fin, binary64, up, down, isNan, toBits}
 use lib.Ieee.Fits.{down-pos}
 use borrow.Author.Tests.{leb-false}
 use Rattle.text.proofs.Decimals.{short}
-use Rattle.figures.specs.Figures.{places, nanText, largeText, millionths, fixedOf, bitsOf}
+use Rattle.figures.specs.Figures.{places, nanText, largeText, millionths, fixedOf, bitsText}
 use Rattle.figures.proofs.Places.{minus-short, places-length}
 
 millionths-short : (s : Bool) (n : ℕ) → n < 8796093022208000000 → length (millionths s n) ≤ 21
@@ -41,6 +41,6 @@ by-nan : (b : Bool) (n : ℕ) → length (cond b nanText (120 ∷ places 16 16 n
 by-nan true n = lit≤ tt
 by-nan false n = omega (arith, places-length 16 16 n)
 
-pub bits-short : (x : Float) → length (bitsOf x) ≤ 17
-unfolding bitsOf
+pub bits-short : (x : Float) → length (bitsText x) ≤ 17
+unfolding bitsText
 bits-short x = by-nan (isNan x) (toBits binary64 x)

@@ -13,7 +13,7 @@ use lib.Ieee.Fits.{down-pos}
 use lib.Ieee.Exact.{HasValue, odd-sign}
 use lib.Ieee.Nearest.{div-same}
 use borrow.Author.Tests.{le-leb, lt-leb, leb-true, ne-eqb}
-use Rattle.figures.specs.Figures.{places, nanText, largeText, millionths, fixedOf, bitsOf}
+use Rattle.figures.specs.Figures.{places, nanText, largeText, millionths, fixedOf, bitsText}
 use Rattle.figures.specs.Millionths.{significand, scale, millionthsOf}
 
 -- ---- the shift
@@ -140,12 +140,12 @@ pub fixed-nan : (x : Float) → ne x x ≡ true → fixedOf x ≡ nanText
 unfolding fixedOf
 fixed-nan x e = ap fixedOf (differs-from-itself x (subst T (sym e) tt))
 
-pub bits-nan : (x : Float) → ne x x ≡ true → bitsOf x ≡ nanText
-unfolding bitsOf isNan
-bits-nan x e = ap bitsOf (differs-from-itself x (subst T (sym e) tt))
+pub bits-nan : (x : Float) → ne x x ≡ true → bitsText x ≡ nanText
+unfolding bitsText isNan
+bits-nan x e = ap bitsText (differs-from-itself x (subst T (sym e) tt))
 
-pub bits-else : (x : Float) → T (not (isNan x)) → bitsOf x ≡ 120 ∷ places 16 16 (toBits binary64 x)
-unfolding bitsOf isNan
+pub bits-else : (x : Float) → T (not (isNan x)) → bitsText x ≡ 120 ∷ places 16 16 (toBits binary64 x)
+unfolding bitsText isNan
 bits-else nan h = absurd h
 bits-else (inf s) h = refl
 bits-else (fin s m e) h = refl

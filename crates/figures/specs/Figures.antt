@@ -32,5 +32,5 @@ fixedOf (inf s) = largeText
 fixedOf (fin s m e) = cond (leb (2 ^ 43 * down e) (m * up e)) largeText (millionths s (m * up e * 1000000 / down e))
 
 -- `x` and the 16 digits of the bits
-unfoldable pub bitsOf : Float → List ℕ
-bitsOf x = cond (isNan x) nanText (ascii "x" ++ places 16 16 (toBits binary64 x))
+unfoldable pub bitsText : Float → List ℕ
+bitsText x = cond (isNan x) nanText (ascii "x" ++ places 16 16 (toBits binary64 x))

@@ -4,7 +4,7 @@ ghost use Prim.Native.Nat.{_+_, _*_, _^_, _/_, _%_, _≤_, _<_};
 ghost use mathlib.Core.Path.{_≡_};
 ghost use lib.ListN.{length};
 ghost use Rattle.text.specs.Text.{Stands, Put};
-ghost use Rattle.figures.specs.Figures.{places, minusText, millionths, fixedOf, bitsOf};
+ghost use Rattle.figures.specs.Figures.{places, minusText, millionths, fixedOf, bitsText};
 ghost use Rattle.figures.specs.Millionths.{millionthsOf};
 
 // The last k digits of n to a base, the last one first.
@@ -88,7 +88,7 @@ pub fn fixed(buf: &mut [u8], at: usize, x: f64) -> usize
 
 // `x` and the 16 hex digits of the bits.
 pub fn bits(buf: &mut [u8], at: usize, x: f64) -> usize
-    ensures { λ r. ⌜ Put (now (buf .entry)) at (bitsOf x) (now (buf .exit)) r ⌝ }
+    ensures { λ r. ⌜ Put (now (buf .entry)) at (bitsText x) (now (buf .exit)) r ⌝ }
 {
     if x != x {
         return text::bytes(buf, at, b"nan");

@@ -22,7 +22,7 @@ use Rattle.solve.proofs.Finite.{advance-finite}
 use Rattle.flight.specs.declared.Mu.{Mu}
 use Rattle.flight.specs.declared.Flight.{Flight}
 use Rattle.flight.specs.declared.Flown.the-variants as F
-use Rattle.flight.specs.Flight.{muOf, tooFar, foundAs, flownOf, burntOf, burnedBy, burnedOf}
+use Rattle.flight.specs.Flight.{muOf, tooFar, flownAs, flownOf, burntOf, burnedBy, burnedOf}
 
 pub record Came (f : Flight) (t : ℤ) (g : Flight) : Type 0 where
   pub time : g .time ≡ t
@@ -36,8 +36,8 @@ same-flight : (f g : Flight) → F.To f ≡ F.To g → f ≡ g
 same-flight f g e = cc
 
 module _ (mu : Mu) (f : Flight) (t : ℤ) (g : Flight) where
-  found-came : (m x : Float) (a : Advanced) → advanceOf m (f .state) x ≡ a → foundAs (f .body) t a ≡ F.To g → Came f t g
-  unfolding foundAs advancedNumber
+  found-came : (m x : Float) (a : Advanced) → advanceOf m (f .state) x ≡ a → flownAs (f .body) t a ≡ F.To g → Came f t g
+  unfolding flownAs advancedNumber
   found-came m x (Ad.Found s y w) k e =
       let q = same-flight (record { body = f .body; time = t; state = s }) g e in
       subst (Came f t) q (record { time = refl; body = refl; state = advance-finite m (f .state) x s y w k .0 })
@@ -55,7 +55,7 @@ module _ (mu : Mu) (f : Flight) (t : ℤ) (g : Flight) where
       x : Float
       x = ofInt binary64 (t -ℤ f .time)
 
-      go : (b : Bool) → cond b (F.Refused 5) (foundAs (f .body) t (advanceOf m (f .state) x)) ≡ F.To g → Came f t g
+      go : (b : Bool) → cond b (F.Refused 5) (flownAs (f .body) t (advanceOf m (f .state) x)) ≡ F.To g → Came f t g
       go true e = absurd (not-refused 5 g e)
       go false e = found-came m x (advanceOf m (f .state) x) refl e
 

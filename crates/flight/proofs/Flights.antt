@@ -20,7 +20,7 @@ use Rattle.solve.specs.Answers.{advanceOf}
 use Rattle.flight.specs.declared.Mu.{Mu}
 use Rattle.flight.specs.declared.Flight.{Flight}
 use Rattle.flight.specs.declared.Flown.the-variants as F
-use Rattle.flight.specs.Flight.{muOf, tooFar, foundAs, flownOf, burntOf, burnedBy, burnedOf}
+use Rattle.flight.specs.Flight.{muOf, tooFar, flownAs, flownOf, burntOf, burnedBy, burnedOf}
 
 -- what the exact difference of the two times says
 pub far-is : (f : Flight) (t : ℤ) → elapsedOf (f .time) t ≡ TooLong → tooFar f t ≡ true
@@ -41,12 +41,12 @@ near-is f t x e = go (ltb 268435456 (natAbs (t -ℤ f .time))) e
 
 pub flown-far : (mu : Mu) (f : Flight) (t : ℤ) → tooFar f t ≡ true → flownOf mu f t ≡ F.Refused 5
 unfolding flownOf
-flown-far mu f t h = ap (λ (b : Bool). cond b (F.Refused 5) (foundAs (f .body) t (advanceOf (muOf mu (f .body)) (f .state) (ofInt binary64 (t -ℤ f .time))))) h
+flown-far mu f t h = ap (λ (b : Bool). cond b (F.Refused 5) (flownAs (f .body) t (advanceOf (muOf mu (f .body)) (f .state) (ofInt binary64 (t -ℤ f .time))))) h
 
 pub flown-near : (mu : Mu) (f : Flight) (t : ℤ) → tooFar f t ≡ false
-    → flownOf mu f t ≡ foundAs (f .body) t (advanceOf (muOf mu (f .body)) (f .state) (ofInt binary64 (t -ℤ f .time)))
+    → flownOf mu f t ≡ flownAs (f .body) t (advanceOf (muOf mu (f .body)) (f .state) (ofInt binary64 (t -ℤ f .time)))
 unfolding flownOf
-flown-near mu f t h = ap (λ (b : Bool). cond b (F.Refused 5) (foundAs (f .body) t (advanceOf (muOf mu (f .body)) (f .state) (ofInt binary64 (t -ℤ f .time))))) h
+flown-near mu f t h = ap (λ (b : Bool). cond b (F.Refused 5) (flownAs (f .body) t (advanceOf (muOf mu (f .body)) (f .state) (ofInt binary64 (t -ℤ f .time))))) h
 
 pub burned-passed : (f : Flight) (d : Vector) → firstFailing (velocityComponents 4 Velocity (sumOf (velocityOf (f .state)) d)) ≡ Passed → burnedOf f d ≡ F.To (burntOf f d)
 unfolding burnedOf burnedBy

@@ -29,16 +29,16 @@ muOf mu body = cond (eqb body 0) (mu .earth) (mu .moon)
 unfoldable pub tooFar : Flight → ℤ → Bool
 tooFar f t = ltb 268435456 (natAbs (t -ℤ f .time))
 
-unfoldable pub foundAs : ℕ → ℤ → Advanced → Flown
-foundAs body t (Ad.Found s x w) = F.To (record { body = body; time = t; state = s })
-foundAs body t Ad.TooLong = F.Refused (advancedNumber Ad.TooLong)
-foundAs body t (Ad.NotFinished b) = F.Refused (advancedNumber (Ad.NotFinished b))
-foundAs body t (Ad.Refused n) = F.Refused (advancedNumber (Ad.Refused n))
+unfoldable pub flownAs : ℕ → ℤ → Advanced → Flown
+flownAs body t (Ad.Found s x w) = F.To (record { body = body; time = t; state = s })
+flownAs body t Ad.TooLong = F.Refused (advancedNumber Ad.TooLong)
+flownAs body t (Ad.NotFinished b) = F.Refused (advancedNumber (Ad.NotFinished b))
+flownAs body t (Ad.Refused n) = F.Refused (advancedNumber (Ad.Refused n))
 
 unfoldable pub flownOf : Mu → Flight → ℤ → Flown
 flownOf mu f t =
     cond (tooFar f t) (F.Refused 5)
-    (foundAs (f .body) t (advanceOf (muOf mu (f .body)) (f .state) (ofInt binary64 (t -ℤ f .time))))
+    (flownAs (f .body) t (advanceOf (muOf mu (f .body)) (f .state) (ofInt binary64 (t -ℤ f .time))))
 
 -- ---- a burn adds its change; 4 for the velocity after it
 

@@ -6,7 +6,7 @@ use table::Test;
 use vector::State;
 use vector::Vector;
 ghost use mathlib.Core.Path.{_≡_};
-ghost use Rattle.flight.specs.Flight.{muOf, tooFar, foundAs, flownOf, burnedOf, offOf};
+ghost use Rattle.flight.specs.Flight.{muOf, tooFar, flownAs, flownOf, burnedOf, offOf};
 
 // mu of each body.
 pub struct Mu {
@@ -47,7 +47,7 @@ pub fn too_far(f: Flight, time: i64) -> bool
 
 // The flight of a body at a time, in the state that an advance found.
 fn found(body: u8, time: i64, a: Advanced) -> Flown
-    ensures { λ r. ⌜ r ≡ foundAs body time a ⌝ }
+    ensures { λ r. ⌜ r ≡ flownAs body time a ⌝ }
 {
     match a {
         Advanced::Found(state, _, _) => Flown::To(Flight { body, time, state }),

@@ -6,19 +6,21 @@ use mathlib.Core.List.{List, [], _++_, append-assoc, append-nil}
 use mathlib.Core.Bool.{Bool, true, false, cond}
 use lib.ListN.{length, drop}
 use lib.Dec.{ltb}
+use Rattle.text.specs.Pieces.{concat}
 use Rattle.session.specs.declared.Place.{Place}
 use Rattle.session.specs.declared.Reading.{Reading}
 use Rattle.session.specs.declared.Reading.the-variants.{Record, Offset, End, Refused}
 use Rattle.session.specs.Limits.{offsetAllowed}
 use Rattle.session.specs.Read.{start, readAt}
 use Rattle.session.proofs.Progress.{by-record, by-offset, progress}
-use Rattle.lines.specs.declared.line.Made.{Made}
-use Rattle.lines.specs.Lines.{InFront, headingText}
+use Rattle.text.specs.declared.Made.{Made}
+use Rattle.text.specs.Text.{InFront}
+use Rattle.lines.specs.Lines.{lineRoom, headingText}
 use Rattle.report.specs.declared.Next.the-variants.{Heading, At}
 use Rattle.report.specs.Listing.{stepFor, stepsFrom, textOf, listingOf}
 use Rattle.report.proofs.Whole.{line-by-line, nothing-left}
 use Rattle.stream.specs.declared.Standing.the-variants.{Open}
-use Rattle.stream.specs.Stream.{Ending, Run, behind, limit, wholeFrom, concat}
+use Rattle.stream.specs.Stream.{Ending, Run, withReading, mostBytes, wholeFrom}
 use Rattle.stream.specs.Calls.{Session}
 use Rattle.stream.proofs.Places.{goOn, read-whole}
 use Rattle.stream.proofs.Calls.{reads-whole}
@@ -29,11 +31,11 @@ empty-by : (b : Bool) (d : List ℕ) → d ≡ cond b d ([] ++ drop 0 d)
 empty-by true d = refl
 empty-by false d = refl
 
-pub empty-line : (d : List ℕ) (r : Made) → r ≡ noLine d → InFront [] d d r
-empty-line d r e = record { answer = e; buffer = empty-by (ltb (length d) 40) d }
+pub empty-line : (d : List ℕ) (r : Made) → r ≡ noLine d → InFront lineRoom [] d d r
+empty-line d r e = record { answer = e; buffer = empty-by (ltb (length d) lineRoom) d }
 
 -- a reading ahead of a run
-ahead : (a : Reading) (x : Run) → runText (behind a x) ≡ readingText a ++ runText x
+ahead : (a : Reading) (x : Run) → runText (withReading a x) ≡ readingText a ++ runText x
 unfolding readingsText
 ahead a x = append-assoc (readingText a) (readingsText (x .readings)) (endingText (x .ending))
 
@@ -77,5 +79,5 @@ module _ (s : List ℕ) (short : length s ≤ 65536) where
 -- the lines of any calls, from the start and with a room of 62 bytes: those of the whole, and of its listing where that is
 -- short enough
 pub writes-whole : {d : List ℕ} {ps : List (List ℕ)} {xs : List Reading} {w : Ending} → 62 ≤ length d → Session (Open start 0) d ps xs w
-    → length (concat ps) ≤ limit → headingText ++ (readingsText xs ++ endingText w) ≡ watchOf (concat ps)
+    → length (concat ps) ≤ mostBytes → headingText ++ (readingsText xs ++ endingText w) ≡ watchOf (concat ps)
 writes-whole r c h = ap (λ (x : Run). headingText ++ runText x) (reads-whole r c h)

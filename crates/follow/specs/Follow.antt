@@ -5,15 +5,15 @@ use mathlib.Core.Bool.{cond}
 use lib.ListN.{length}
 use lib.Dec.{ltb}
 use Rattle.session.specs.declared.Reading.{Reading}
-use Rattle.lines.specs.declared.line.Made.{Made}
-use Rattle.lines.specs.declared.line.Made.the-variants as M
-use Rattle.lines.specs.Lines.{headingText, recordText, refusedText}
+use Rattle.text.specs.declared.Made.{Made}
+use Rattle.text.specs.declared.Made.the-variants as M
+use Rattle.lines.specs.Lines.{lineRoom, headingText, recordText, refusedText}
 use Rattle.report.specs.Listing.{stepFor}
 use Rattle.stream.specs.declared.Standing.{Standing}
 use Rattle.stream.specs.declared.Standing.the-variants.{Open, Refused, Ended}
 use Rattle.stream.specs.declared.Step.{Step}
 use Rattle.stream.specs.declared.Step.the-variants as S
-use Rattle.stream.specs.Stream.{Ending, ended, refused, Run, wholeOf}
+use Rattle.stream.specs.Stream.{Ending, ended, refused, Run, wholeRun}
 
 -- the line of what was read, as the listing has it
 abbrev pub readingText : Reading → List ℕ
@@ -33,7 +33,7 @@ runText x = readingsText (x .readings) ++ endingText (x .ending)
 
 -- the listing of a session of whatever length
 abbrev pub watchOf : List ℕ → List ℕ
-watchOf s = headingText ++ runText (wholeOf s)
+watchOf s = headingText ++ runText (wholeRun s)
 
 -- the line of a step of code
 abbrev pub lastText : Standing → List ℕ
@@ -47,4 +47,4 @@ stepText (S.Offset q at) = []
 stepText (S.Stopped x) = lastText x
 
 abbrev pub noLine : List ℕ → Made
-noLine d = cond (ltb (length d) 40) (M.Refused 15) (M.Line 0)
+noLine d = cond (ltb (length d) lineRoom) (M.Refused 15) (M.Line 0)

@@ -11,7 +11,7 @@ use lib.Seq.{take-all, take-suc-set}
 use lib.Ieee.{Float}
 use borrow.Author.Tests.{ne-eqb, eq-eqb}
 use Rattle.words.specs.Words.{wordAt, isEnd}
-use Rattle.numerals.specs.Numbers.{numberOf}
+use Rattle.numerals.specs.Numbers.{wordNumber}
 use Rattle.numerals.specs.declared.reals.Number.{Number}
 use Rattle.numerals.specs.declared.reals.Number.the-variants as N
 use Rattle.forms.specs.declared.Request.{Request}
@@ -30,7 +30,7 @@ pub record Got (line : List ℕ) (k : ℕ) (xs : List Float) (i : ℕ) : Type 0 
 pub got-none : (line : List ℕ) (k : ℕ) (xs : List Float) → Got line k xs 0
 got-none line k xs = record { left = length xs; sum = omega arith; reads = λ go. rw (add-zero k) refl }
 
-peel : (line : List ℕ) (go : List Float → Form) (left m k : ℕ) {n w : Number} → left ≡ suc m → n ≡ numberOf (wordAt k line) → n ≡ w
+peel : (line : List ℕ) (go : List Float → Form) (left m k : ℕ) {n w : Number} → left ≡ suc m → n ≡ wordNumber (wordAt k line) → n ≡ w
     → readBy (numbers left go) k line ≡ byNumber w (λ (x : Float). readBy (numbers m (λ (ys : List Float). go (x ∷ ys))) (k + 1) line) (Unread (k + 1))
 unfolding numbers readBy
 peel line go left m k p e q =
@@ -40,7 +40,7 @@ module _ {line : List ℕ} {k : ℕ} {xs : List Float} {i : ℕ} (g : Got line k
   some : i < length xs → g .left ≡ suc (g .left - 1)
   some h = omega (arith, g .sum)
 
-  pub got-more : {n : Number} {x : Float} → i < length xs → n ≡ numberOf (wordAt (k + i) line) → n ≡ N.Read x → Got line k (set xs i x) (i + 1)
+  pub got-more : {n : Number} {x : Float} → i < length xs → n ≡ wordNumber (wordAt (k + i) line) → n ≡ N.Read x → Got line k (set xs i x) (i + 1)
   got-more {n} {x} h e q =
       let t : take (i + 1) (set xs i x) ≡ take i xs ++ (x ∷ []) = rw add-one (take-suc-set xs i x h) in
       record {
@@ -49,7 +49,7 @@ module _ {line : List ℕ} {k : ℕ} {xs : List Float} {i : ℕ} (g : Got line k
         reads = λ go. rw length-set (g .reads go ∙ peel line (λ (ys : List Float). go (take i xs ++ ys)) (g .left) (g .left - 1) (k + i) (some h) e q ∙ simp (t, append-assoc, add-assoc k i 1));
       }
 
-  pub got-bad : {n : Number} → i < length xs → n ≡ numberOf (wordAt (k + i) line) → n ≡ N.Unread → Numbers xs k (k + i + 1) line
+  pub got-bad : {n : Number} → i < length xs → n ≡ wordNumber (wordAt (k + i) line) → n ≡ N.Unread → Numbers xs k (k + i + 1) line
   got-bad h e q go =
       g .reads go ∙ peel line (λ (ys : List Float). go (take i xs ++ ys)) (g .left) (g .left - 1) (k + i) (some h) e q
       ∙ rw (ne-eqb (k + i + 1) 0 (λ z. let w : ⊥ = omega arith in absurd w)) refl

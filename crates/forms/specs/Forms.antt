@@ -7,7 +7,7 @@ use lib.IntN.{ℤ}
 use lib.Ieee.{Float}
 use Rattle.iterator.specs.declared.Judgement.{Judgement}
 use Rattle.words.specs.Words.{wordAt, isEnd, isWord}
-use Rattle.numerals.specs.Numbers.{numberOf, signedOf, wholeOf}
+use Rattle.numerals.specs.Numbers.{wordNumber, wordSigned, wordWhole}
 use Rattle.numerals.specs.declared.reals.Number.{Number}
 use Rattle.numerals.specs.declared.reals.Number.the-variants as N
 use Rattle.numerals.specs.declared.digits.Signed.{Signed}
@@ -18,7 +18,7 @@ use Rattle.forms.specs.declared.judgement.Judged.{Judged}
 use Rattle.forms.specs.declared.judgement.Judged.the-variants as J
 use Rattle.forms.specs.declared.Request.{Request}
 use Rattle.forms.specs.declared.Request.the-variants.{Unread}
-use Rattle.forms.specs.Judgements.{judgedOf}
+use Rattle.forms.specs.Judgements.{wordJudgement}
 
 pub data Form : Type 0 where
   -- no word more, and this is asked
@@ -52,10 +52,10 @@ byJudged J.Unread go bad = bad
 -- the request of a line whose first k words are read. A missing word is empty, and no number, judgement or name is.
 unfoldable pub readBy : Form → ℕ → List ℕ → Request
 readBy (end x) k line = cond (isEnd k line) x (Unread (k + 1))
-readBy (number go) k line = byNumber (numberOf (wordAt k line)) (λ (x : Float). readBy (go x) (k + 1) line) (Unread (k + 1))
-readBy (signed go) k line = bySigned (signedOf (wordAt k line)) (λ (z : ℤ). readBy (go z) (k + 1) line) (Unread (k + 1))
-readBy (whole go) k line = byWhole (wholeOf (wordAt k line)) (λ (n : ℕ). readBy (go n) (k + 1) line) (Unread (k + 1))
-readBy (judgement go) k line = byJudged (judgedOf (wordAt k line)) (λ (j : Judgement). readBy (go j) (k + 1) line) (Unread (k + 1))
+readBy (number go) k line = byNumber (wordNumber (wordAt k line)) (λ (x : Float). readBy (go x) (k + 1) line) (Unread (k + 1))
+readBy (signed go) k line = bySigned (wordSigned (wordAt k line)) (λ (z : ℤ). readBy (go z) (k + 1) line) (Unread (k + 1))
+readBy (whole go) k line = byWhole (wordWhole (wordAt k line)) (λ (n : ℕ). readBy (go n) (k + 1) line) (Unread (k + 1))
+readBy (judgement go) k line = byJudged (wordJudgement (wordAt k line)) (λ (j : Judgement). readBy (go j) (k + 1) line) (Unread (k + 1))
 readBy (word w next other) k line = cond (isWord (wordAt k line) w) (readBy next (k + 1) line) (readBy other k line)
 readBy none k line = Unread (k + 1)
 

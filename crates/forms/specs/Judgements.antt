@@ -6,7 +6,7 @@ use lib.ListN.{drop}
 use Rattle.text.specs.Text.{ascii}
 use Rattle.iterator.specs.declared.Judgement.the-variants.{Low, High, Under, Over}
 use Rattle.words.specs.Words.{startsWith, isWord}
-use Rattle.numerals.specs.Numbers.{numberOf}
+use Rattle.numerals.specs.Numbers.{wordNumber}
 use Rattle.numerals.specs.declared.reals.Number.{Number}
 use Rattle.numerals.specs.declared.reals.Number.the-variants as N
 use Rattle.forms.specs.declared.judgement.Judged.{Judged}
@@ -20,9 +20,9 @@ abbrev pub asHigh : Number → Judged
 asHigh (N.Read x) = Read (High x)
 asHigh N.Unread = Unread
 
-unfoldable pub judgedOf : List ℕ → Judged
-judgedOf s =
+unfoldable pub wordJudgement : List ℕ → Judged
+wordJudgement s =
     cond (isWord s (ascii "under")) (Read Under)
     (cond (isWord s (ascii "over")) (Read Over)
-    (cond (startsWith s (ascii "low:")) (asLow (numberOf (drop 4 s)))
-    (cond (startsWith s (ascii "high:")) (asHigh (numberOf (drop 5 s))) Unread)))
+    (cond (startsWith s (ascii "low:")) (asLow (wordNumber (drop 4 s)))
+    (cond (startsWith s (ascii "high:")) (asHigh (wordNumber (drop 5 s))) Unread)))

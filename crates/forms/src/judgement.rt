@@ -1,6 +1,6 @@
 // A judgement as a word.
 ghost use mathlib.Core.Path.{_≡_};
-ghost use Rattle.forms.specs.Judgements.{asLow, asHigh, judgedOf};
+ghost use Rattle.forms.specs.Judgements.{asLow, asHigh, wordJudgement};
 use iterator::Judgement;
 use numerals::Number;
 
@@ -29,7 +29,7 @@ fn high(x: Number) -> Judged
 
 // under, over, low:NUMBER, high:NUMBER.
 pub fn read_judgement(s: &[u8]) -> Judged
-    ensures { λ r. ⌜ r ≡ judgedOf (now (s .entry)) ⌝ }
+    ensures { λ r. ⌜ r ≡ wordJudgement (now (s .entry)) ⌝ }
 {
     if words::is_word(s, b"under") {
         return Judged::Read(Judgement::Under);

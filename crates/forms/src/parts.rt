@@ -3,7 +3,7 @@
 ghost use Prim.Native.Nat.{_+_};
 ghost use mathlib.Core.Path.{_≡_};
 ghost use Rattle.words.specs.Words.{wordAt};
-ghost use Rattle.forms.specs.Judgements.{judgedOf};
+ghost use Rattle.forms.specs.Judgements.{wordJudgement};
 ghost use Rattle.forms.specs.Parts.{Numbers, OnlyNumbers, ReadsEnds, ReadsSides};
 use crate::judgement::Judged;
 use crate::judgement::read_judgement;
@@ -47,7 +47,7 @@ pub fn only_numbers(line: &[u8], k: u32, xs: &mut [f64]) -> u64
 }
 
 pub fn judgement_at(line: &[u8], k: u64) -> Judged
-    ensures { λ r. ⌜ r ≡ judgedOf (wordAt k (now (line .entry))) ⌝ }
+    ensures { λ r. ⌜ r ≡ wordJudgement (wordAt k (now (line .entry))) ⌝ }
 {
     read_judgement(words::word(line, k))
 }

@@ -11,14 +11,14 @@ use Rattle.flight.specs.declared.Flight.{Flight}
 use Rattle.replay.specs.declared.Vehicle.{Vehicle}
 use Rattle.replay.specs.declared.Vehicle.the-variants.{Unset, Set}
 use Rattle.replay.specs.declared.Replay.{Replay}
-use Rattle.library_replay.specs.Steps.{setIn, bodyIn, timeIn, stateHeld, bodyFrom, vehicleFrom, replayFrom, heldWholes, heldNumbers}
+use Rattle.library_replay.specs.Steps.{setIn, bodyIn, vehicleTime, stateHeld, bodyFrom, vehicleFrom, replayFrom, heldWholes, heldNumbers}
 
 -- a vehicle as memory holds it: its body is 0 or 1, and its time has 64 bits
 pub record Holds (v : Vehicle) : Type 0 where
   pub body : bodyFrom (bodyIn v) ≡ bodyIn v
   pub time : (f : Flight) → v ≡ Set f → SFits w64 (f .time)
 
-pub vehicle-back : (v : Vehicle) → Holds v → vehicleFrom (setIn v) (bodyIn v) (timeIn v) (stateHeld v) ≡ v
+pub vehicle-back : (v : Vehicle) → Holds v → vehicleFrom (setIn v) (bodyIn v) (vehicleTime v) (stateHeld v) ≡ v
 unfolding vehicleFrom
 vehicle-back Unset h = refl
 vehicle-back (Set f) h = rw (h .body, toZ-ofZ {w = w64} {z = f .time} (h .time f refl))

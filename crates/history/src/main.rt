@@ -1,7 +1,6 @@
 // One order on the settings: the used part on standard input, the order's words as one argument. The answer goes to
 // standard output. Where a version was stored, the used part with it goes to descriptor 3 first; else nothing does.
 use libc::STDIN_FILENO;
-use libc::STDOUT_FILENO;
 use orders::Order;
 use settings::Stored;
 use text::Made;
@@ -11,19 +10,12 @@ ghost use Rattle.history.specs.Within.{Within};
 
 const KEPT_FILENO: i32 = 3;
 
-// Writes the front of a buffer to standard output; where that goes wrong standard error says so.
-fn print(out: &[u8], n: usize)
-    requires { ⌜ n ≤ length (now out) ⌝ }
-{
-    if !io::write_all(STDOUT_FILENO, &out[..n]) {
-        os::fail(b"standard output");
-    }
-}
-
 fn list(s: &[u8]) {
     let mut out = [0u8; 16384];
     match versions::list(s, &mut out) {
-        Made::Line(n) => print(&out, n),
+        Made::Line(n) => {
+            console::print(&out[..n]);
+        }
         Made::Refused(_) => {}
     }
 }
@@ -31,7 +23,9 @@ fn list(s: &[u8]) {
 fn show(s: &[u8], k: u64) {
     let mut out = [0u8; 512];
     match versions::show(s, k, &mut out) {
-        Made::Line(n) => print(&out, n),
+        Made::Line(n) => {
+            console::print(&out[..n]);
+        }
         Made::Refused(_) => {}
     }
 }
@@ -39,13 +33,13 @@ fn show(s: &[u8], k: u64) {
 fn refuse(number: u32) {
     let mut out = [0u8; 512];
     let n = columns::refused(&mut out, number);
-    print(&out, n);
+    console::print(&out[..n]);
 }
 
 fn unread(word: u64) {
     let mut out = [0u8; 512];
     let n = columns::unread(&mut out, word);
-    print(&out, n);
+    console::print(&out[..n]);
 }
 
 // The used part as it is now, and the line of its last version, which was just stored.
@@ -93,13 +87,8 @@ fn main() {
         return;
     }
     let mut buf = [0u8; 2817];
-    let used = io::read_full(STDIN_FILENO, &mut buf);
-    if used < 2817 {
-        let mut more = [0u8; 1];
-        if libc::read(STDIN_FILENO, &mut more) != 0 {
-            os::fail(b"the settings");
-            return;
-        }
+    let input = console::read_whole(STDIN_FILENO, b"the settings", &mut buf);
+    if !input.failed {
+        obey(orders::read(&line[..n]), &mut buf, input.length);
     }
-    obey(orders::read(&line[..n]), &mut buf, used);
 }

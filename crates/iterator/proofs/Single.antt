@@ -16,7 +16,7 @@ use Rattle.real.specs.F64.{_≤ᶠ_, finite}
 use Rattle.iterator.specs.Judged.{inTime, judgedOf}
 use Rattle.iterator.specs.Rule.{Grid, widthOf, pointOf}
 use Rattle.iterator.specs.Run.{narrowed, nextPoint, next, more, run, runTo}
-use Rattle.iterator.specs.Single.{timeFinite, allFinite, inGrid, timeInTime, allInTime, isBelow, isAbove, agrees, endsAgree, soundOf, nextTrialOf, trialOf, triedNumber, moreLeft}
+use Rattle.iterator.specs.Single.{timeFinite, allTimesFinite, inGrid, timeInTime, allInTime, isBelow, isAbove, agrees, endsAgree, soundOf, nextTrialOf, singleTrialOf, triedNumber, moreLeft}
 use Rattle.iterator.specs.declared.Judgement.{Judgement}
 use Rattle.iterator.specs.declared.Judgement.the-variants.{Low, High, Under, Over}
 use Rattle.iterator.specs.declared.Bracket.{Bracket}
@@ -98,8 +98,8 @@ time-finite (High t) h = in-time-finite t h
 time-finite Under h = refl
 time-finite Over h = refl
 
-finite-is : {asked : Float} {s : Bracket} → Sound asked s → allFinite asked (s .below) (s .above) ≡ true
-unfolding allFinite
+finite-is : {asked : Float} {s : Bracket} → Sound asked s → allTimesFinite asked (s .below) (s .above) ≡ true
+unfolding allTimesFinite
 finite-is {asked} {s} h =
     both (finite asked) _ (in-time-finite asked (h .asked-in)) (both (timeFinite (s .below)) _ (time-finite (s .below) (h .below-in)) (time-finite (s .above) (h .above-in)))
 
@@ -200,8 +200,8 @@ next-trial-is {asked} {s} h = simp (in-grid-is h)
 
 -- and the single trial's answer is the same
 pub trial-is : {asked : Float} {s : Bracket} → Sound asked s
-    → trialOf asked (s .lo) (s .hi) (s .below) (s .above) (s .count + 1) ≡ nextTrialOf asked (s .lo) (s .hi) (s .below) (s .above) (s .count + 1)
-unfolding trialOf
+    → singleTrialOf asked (s .lo) (s .hi) (s .below) (s .above) (s .count + 1) ≡ nextTrialOf asked (s .lo) (s .hi) (s .below) (s .above) (s .count + 1)
+unfolding singleTrialOf
 trial-is {asked} {s} h = simp (finite-is h, sound-is h)
 
 -- the same, from what it answers
@@ -234,9 +234,9 @@ more-is h = simp (in-grid-is h)
 
 -- ---- the single trial's number: 1 for a time that is not finite, then 6 unless the ends are sound
 pub trial-number : (asked : Float) (lo hi : ℤ) (below above : Judgement) (k : ℕ)
-    → triedNumber (trialOf asked lo hi below above k) ≡ cond (not (allFinite asked below above)) 1 (cond (not (soundOf asked lo hi below above)) 6 0)
-unfolding trialOf triedNumber nextTrialOf soundOf
-trial-number asked lo hi below above k = go (allFinite asked below above) (soundOf asked lo hi below above) refl
+    → triedNumber (singleTrialOf asked lo hi below above k) ≡ cond (not (allTimesFinite asked below above)) 1 (cond (not (soundOf asked lo hi below above)) 6 0)
+unfolding singleTrialOf triedNumber nextTrialOf soundOf
+trial-number asked lo hi below above k = go (allTimesFinite asked below above) (soundOf asked lo hi below above) refl
   where
     grid : soundOf asked lo hi below above ≡ true → inGrid lo hi ≡ true
     grid e = and-0 (inGrid lo hi) _ e

@@ -3,10 +3,10 @@
 ghost use mathlib.Core.Path.{_≡_};
 ghost use Prim.Native.Nat.{_<_};
 ghost use Rattle.iterator.specs.Judged.{inTime, judgedOf};
-ghost use Rattle.iterator.specs.Rule.{Grid, widthOf, within, secantOf, strideOf, pointOf};
+ghost use Rattle.iterator.specs.Rule.{Grid, widthOf, broughtInto, secantOf, strideOf, pointOf};
 ghost use Rattle.iterator.specs.Same.{sameTime, judgementNumber, hasTime, carriedOf, sameAs};
-ghost use Rattle.iterator.specs.Single.{timeFinite, allFinite, inGrid, timeInTime, allInTime};
-ghost use Rattle.iterator.specs.Single.{isBelow, agrees, endsAgree, soundOf, nextTrialOf, trialOf, moreLeft};
+ghost use Rattle.iterator.specs.Single.{timeFinite, allTimesFinite, inGrid, timeInTime, allInTime};
+ghost use Rattle.iterator.specs.Single.{isBelow, agrees, endsAgree, soundOf, nextTrialOf, singleTrialOf, moreLeft};
 
 // Low and high carry the time found; under is too fast and over too slow to have one.
 pub enum Judgement {
@@ -73,7 +73,7 @@ pub fn judged(asked: f64, t: f64) -> Judgement
 
 // d brought into 1..w-1; 1 where there is nothing between.
 fn brought(d: u64, w: u64) -> u64
-    ensures { λ r. ⌜ r ≡ within d w ⌝ }
+    ensures { λ r. ⌜ r ≡ broughtInto d w ⌝ }
 {
     if d < 1 {
         return 1;
@@ -139,7 +139,7 @@ fn time_finite(j: Judgement) -> bool
 }
 
 fn all_finite(asked: f64, below: Judgement, above: Judgement) -> bool
-    ensures { λ r. ⌜ r ≡ allFinite asked below above ⌝ }
+    ensures { λ r. ⌜ r ≡ allTimesFinite asked below above ⌝ }
 {
     if !real::is_finite(asked) {
         return false;
@@ -250,7 +250,7 @@ fn next_trial(asked: f64, lo: i64, hi: i64, below: Judgement, above: Judgement, 
 
 // A single trial called from outside, the k-th.
 pub fn trial(asked: f64, lo: i64, hi: i64, below: Judgement, above: Judgement, k: u64) -> Tried
-    ensures { λ r. ⌜ r ≡ trialOf asked lo hi below above k ⌝ }
+    ensures { λ r. ⌜ r ≡ singleTrialOf asked lo hi below above k ⌝ }
 {
     if !all_finite(asked, below, above) {
         return Tried::Refused(1);

@@ -11,9 +11,9 @@ use Rattle.vector.specs.Vectors.{dotOf, lengthOf, dividedOf}
 use Rattle.table.specs.declared.Name.the-variants.{First, Second, Velocity, Time}
 use Rattle.table.specs.declared.Entry.{Entry}
 use Rattle.table.specs.declared.Test.the-variants.{Passed}
-use Rattle.table.specs.Tests.{firstFailing, allMeet, numberOf, firstRow, tableOrder, ordered, isRow}
+use Rattle.table.specs.Tests.{firstFailing, allMeet, testNumber, firstRow, tableOrder, ordered}
 use Rattle.rows.specs.Rows.{finiteNumber, finiteInputs}
-use Rattle.table.proofs.Laws.{all-met, meet-both, first-row, row-then}
+use Rattle.table.proofs.Laws.{isRow, all-met, meet-both, first-row, row-then}
 use Rattle.rows.proofs.Components.{Finite, velocity-finite}
 use Rattle.rows.proofs.Inputs.{allFinite, inputs-finite, one-more}
 use Rattle.conic.specs.Conic.{gridOf}
@@ -39,7 +39,7 @@ lambert-told d asked n = judged-told asked (reachAt d (gridOf n))
 -- ---- the number of the first row that applies, in the order of the table
 
 pub lambert-table : (mu : Float) (first second : Vector) (way : Way) (t : Float) (d : Transfer)
-    → numberOf (firstFailing (lambertTests mu first second way t d)) ≡ firstRow tableOrder (lambertTests mu first second way t d)
+    → testNumber (firstFailing (lambertTests mu first second way t d)) ≡ firstRow tableOrder (lambertTests mu first second way t d)
 lambert-table mu first second way t d = first-row tableOrder (lambertTests mu first second way t d) (in-order way)
   where
     in-order : (w : Way) → ordered tableOrder (lambertTests mu first second w t d) ≡ true
@@ -77,11 +77,11 @@ module _ (mu : Float) (first second : Vector) (t : Float) (d : Transfer) where
       ∙ ap (λ (b : Bool). (finite mu && allFinite first && allFinite second && finite t) && b) (way-met way)
 
   refused : (way : Way) (behind : List Entry) → isRow 1 (inputs ++ normalInput way) ≡ true → (finite mu && allFinite first && allFinite second && finite t && wayFinite way) ≡ false
-      → numberOf (firstFailing ((inputs ++ normalInput way) ++ behind)) ≡ 1
-  refused way behind r h = row-then 1 (inputs ++ normalInput way) behind r ∙ ap (λ (b : Bool). cond b (numberOf (firstFailing behind)) 1) (known way ∙ h)
+      → testNumber (firstFailing ((inputs ++ normalInput way) ++ behind)) ≡ 1
+  refused way behind r h = row-then 1 (inputs ++ normalInput way) behind r ∙ ap (λ (b : Bool). cond b (testNumber (firstFailing behind)) 1) (known way ∙ h)
 
   pub lambert-not-finite : (way : Way) → (finite mu && allFinite first && allFinite second && finite t && wayFinite way) ≡ false
-      → numberOf (firstFailing (lambertTests mu first second way t d)) ≡ 1
+      → testNumber (firstFailing (lambertTests mu first second way t d)) ≡ 1
   lambert-not-finite Short h = refused Short (rangeRows mu first second Short t d) refl h
   lambert-not-finite Long h = refused Long (rangeRows mu first second Long t d) refl h
   lambert-not-finite (Normal n) h = refused (Normal n) (rangeRows mu first second (Normal n) t d) refl h

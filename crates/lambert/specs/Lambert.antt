@@ -162,12 +162,12 @@ abbrev pub lambertStop : Transfer → ℤ → Test
 lambertStop d n = stoppedBy (reachAt d (gridOf n))
 
 -- √((mu·p)/r1)·(cot·u1 + normal×u1)
-abbrev pub velocityAt : Transfer → Float → Vector
-velocityAt d cot =
+abbrev pub velocityBy : Transfer → Float → Vector
+velocityBy d cot =
     scaledOf (rootOf (d .mu ⊗ pOf d cot ⊘ d .r1)) (sumOf (scaledOf cot (d .u1)) (crossOf (d .normal) (d .u1)))
 
-abbrev pub velocityOf : Transfer → ℤ → Vector
-velocityOf d n = velocityAt d (gridOf n)
+abbrev pub velocityAt : Transfer → ℤ → Vector
+velocityAt d n = velocityBy d (gridOf n)
 
 -- 9: each velocity component at most 2^7 in size
 abbrev pub resultRow : Vector → List Entry

@@ -11,7 +11,7 @@ use vector::Vector;
 ghost use mathlib.Core.Path.{_≡_};
 ghost use Rattle.table.specs.declared.Test.the-variants.{Passed};
 ghost use Rattle.table.specs.Tests.{_▷_, firstFailing};
-ghost use Rattle.lambert.specs.Lambert.{turnOf, sharedOf, transferOf, positionRows, normalInput, inputRow, normalRow, angleRow, derivedRow, rangeRows, denOf, pOf, arcOf, sideOf, reachAt, lambertJudge, lambertStop, velocityOf, resultRow};
+ghost use Rattle.lambert.specs.Lambert.{turnOf, sharedOf, transferOf, positionRows, normalInput, inputRow, normalRow, angleRow, derivedRow, rangeRows, denOf, pOf, arcOf, sideOf, reachAt, lambertJudge, lambertStop, velocityAt, resultRow};
 
 // The short way round from the first position to the second, the long way, or the way round a normal that is given.
 pub enum Way {
@@ -261,7 +261,7 @@ pub fn stop_at(d: Transfer, n: i64) -> Test
 
 // The velocity at grid point n.
 pub fn velocity_at(d: Transfer, n: i64) -> Vector
-    ensures { λ r. ⌜ r ≡ velocityOf d n ⌝ }
+    ensures { λ r. ⌜ r ≡ velocityAt d n ⌝ }
 {
     let cot = conic::grid(n);
     let k = root::square_root(d.mu * p_at(d, cot) / d.r1);

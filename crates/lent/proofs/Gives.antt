@@ -6,7 +6,7 @@ use mathlib.Core.List.{List}
 use lib.ListN.{length}
 use borrow.Author.Tests.{le-leb}
 use lib.Ieee.{Float}
-use Rattle.lent.specs.Given.{Told, answer, refused, roomFor, numberOf, inFront, putIn, numbersAfter, wholesAfter, Given, GivenNumbers, GivenWholes}
+use Rattle.lent.specs.Given.{Told, answer, refused, roomFor, toldNumber, inFront, putIn, numbersAfter, wholesAfter, Given, GivenNumbers, GivenWholes}
 
 -- xs are at most 16 and fit
 abbrev pub Fit : {A : Type 0} → List A → List A → Type 0
@@ -17,11 +17,11 @@ unfolding putIn
 fitted xs d f = rw (le-leb _ _ (f .0), le-leb _ _ (f .1))
 
 pub put : {xs : List Float} {zs : List ℕ} {d : List Float} {w : List ℕ} {e : List Float} {v : List ℕ} → e ≡ putIn xs d → v ≡ putIn zs w → Fit xs d → Fit zs w → Given (answer xs zs) d w e v 0
-unfolding numberOf numbersAfter wholesAfter
+unfolding toldNumber numbersAfter wholesAfter
 put {xs} {zs} {d} {w} p q f g = record { number = refl; numbers = p ∙ fitted xs d f; wholes = q ∙ fitted zs w g }
 
 pub left : {n : ℕ} {d : List Float} {w : List ℕ} → Given (refused n) d w d w n
-unfolding numberOf numbersAfter wholesAfter
+unfolding toldNumber numbersAfter wholesAfter
 left = record { number = refl; numbers = refl; wholes = refl }
 
 pub short : (t : Told) {d : List Float} {w : List ℕ} → Given (roomFor false t) d w d w 15
@@ -35,11 +35,11 @@ enough g = g
 -- the same where only numbers are lent
 
 pub put-numbers : {xs : List Float} {zs : List ℕ} {d e : List Float} → e ≡ putIn xs d → Fit xs d → GivenNumbers (answer xs zs) d e 0
-unfolding numberOf numbersAfter
+unfolding toldNumber numbersAfter
 put-numbers {xs} {zs} {d} p f = record { number = refl; numbers = p ∙ fitted xs d f }
 
 pub left-numbers : {n : ℕ} {d : List Float} → GivenNumbers (refused n) d d n
-unfolding numberOf numbersAfter
+unfolding toldNumber numbersAfter
 left-numbers = record { number = refl; numbers = refl }
 
 pub short-numbers : (t : Told) {d : List Float} → GivenNumbers (roomFor false t) d d 15
@@ -53,11 +53,11 @@ enough-numbers g = g
 -- the same where only whole numbers are lent
 
 pub put-wholes : {xs : List Float} {zs w v : List ℕ} → v ≡ putIn zs w → Fit zs w → GivenWholes (answer xs zs) w v 0
-unfolding numberOf wholesAfter
+unfolding toldNumber wholesAfter
 put-wholes {xs} {zs} {w} q g = record { number = refl; wholes = q ∙ fitted zs w g }
 
 pub left-wholes : {n : ℕ} {w : List ℕ} → GivenWholes (refused n) w w n
-unfolding numberOf wholesAfter
+unfolding toldNumber wholesAfter
 left-wholes = record { number = refl; wholes = refl }
 
 pub short-wholes : (t : Told) {w : List ℕ} → GivenWholes (roomFor false t) w w 15

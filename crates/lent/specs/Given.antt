@@ -19,9 +19,9 @@ unfoldable pub roomFor : Bool → Told → Told
 roomFor enough t = cond enough t (refused 15)
 
 -- 0 for an answer
-unfoldable pub numberOf : Told → ℕ
-numberOf (answer xs zs) = 0
-numberOf (refused n) = n
+unfoldable pub toldNumber : Told → ℕ
+toldNumber (answer xs zs) = 0
+toldNumber (refused n) = n
 
 -- xs in the first places of d, the rest as it was
 abbrev pub inFront : {A : Type 0} → List A → List A → List A
@@ -47,18 +47,18 @@ bytesAfter (refused n) e d = d
 
 -- t is given: r is returned, and the lent arrays d and w become e and v
 pub record Given (t : Told) (d : List Float) (w : List ℕ) (e : List Float) (v : List ℕ) (r : ℕ) : Type 0 where
-  pub number : r ≡ numberOf t
+  pub number : r ≡ toldNumber t
   pub numbers : e ≡ numbersAfter t d
   pub wholes : v ≡ wholesAfter t w
 
 -- the same where only numbers are lent
 pub record GivenNumbers (t : Told) (d e : List Float) (r : ℕ) : Type 0 where
-  pub number : r ≡ numberOf t
+  pub number : r ≡ toldNumber t
   pub numbers : e ≡ numbersAfter t d
 
 -- the same where only whole numbers are lent
 pub record GivenWholes (t : Told) (w v : List ℕ) (r : ℕ) : Type 0 where
-  pub number : r ≡ numberOf t
+  pub number : r ≡ toldNumber t
   pub wholes : v ≡ wholesAfter t w
 
 -- the first numbers of a lent array as a vector and as a state

@@ -56,7 +56,7 @@ apsidesIn mu s d w = roomFor (leb 6 (length s) && leb 2 (length d) && leb 1 (len
 -- ---- the thumbwheel: sine, cosine
 
 unfoldable pub wheelTold : Elevation → Told
-wheelTold (E.At x) = answer (x .sine ∷ x .cosine ∷ []) []
+wheelTold (E.Angle x) = answer (x .sine ∷ x .cosine ∷ []) []
 wheelTold (E.Refused n) = refused n
 
 abbrev pub wheelIn : ℕ → List Float → Told

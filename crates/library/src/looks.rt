@@ -13,7 +13,7 @@ fn give_wheel(a: Elevation, out: &mut [f64]) -> u32
     ensures { λ r. ⌜ GivenNumbers (wheelTold a) (now (out .entry)) (now (out .exit)) r ⌝ }
 {
     match a {
-        Elevation::At(d) => {
+        Elevation::Angle(d) => {
             let xs = [d.sine, d.cosine];
             put_numbers(out, &xs);
             0

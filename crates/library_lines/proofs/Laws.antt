@@ -12,7 +12,7 @@ use Rattle.session.specs.declared.record.Kind.the-variants.{State, Burn, Mark}
 use Rattle.session.specs.Layout as Y
 use Rattle.lines.specs.Days.{localOf}
 use Rattle.lines.specs.Lines.{recordText, eventText}
-use Rattle.lines.specs.declared.line.Made.the-variants as M
+use Rattle.text.specs.declared.Made.the-variants as M
 use Rattle.lent.specs.Given.{roomFor, inFront, bytesAfter}
 use Rattle.library_lines.specs.Listing.{madeTold, lineMade}
 
@@ -21,10 +21,10 @@ unfolding bytesAfter madeTold
 made true k x d = refl
 made false k x d = refl
 
--- a line at the front, and a buffer of under 40 bytes as it was
-pub line-bytes : (x d : List ℕ) → cond (ltb (length d) 40) d (inFront x d) ≡ bytesAfter (roomFor true (madeTold (lineMade x d))) (inFront x d) d
+-- a line at the front, and a shorter buffer as it was
+pub line-bytes : (room : ℕ) (x d : List ℕ) → cond (ltb (length d) room) d (inFront x d) ≡ bytesAfter (roomFor true (madeTold (lineMade room x d))) (inFront x d) d
 unfolding roomFor
-line-bytes x d = made (ltb (length d) 40) (length x) (inFront x d) d
+line-bytes room x d = made (ltb (length d) room) (length x) (inFront x d) d
 
 -- of a record the line has the kind, the vehicle and the time
 pub line-of : (k : Kind) (v b : ℕ) (t : ℤ) (x : ℕ → Float) (o : ℤ) → recordText o (Y.recordWith k v b t x) ≡ eventText (localOf t o) v k

@@ -1,18 +1,21 @@
 // The front door for C, as in `library`: the listing's lines.
-ghost use Prim.Native.Nat.{_≤_};
 ghost use mathlib.Core.Path.{_≡_};
+ghost use lib.Dec.{leb};
 ghost use lib.ListN.{length};
-ghost use Rattle.lines.specs.Lines.{headingText, refusedText};
-ghost use Rattle.lent.specs.Given.{GivenWholes, inFront, bytesAfter};
+ghost use Rattle.lines.specs.Lines.{lineRoom, headingText, refusedText};
+ghost use Rattle.lent.specs.Given.{GivenWholes, roomFor, inFront, bytesAfter};
 ghost use Rattle.library_lines.specs.Listing.{madeTold, lineIn, recordLine, recordLineIn};
 use lent::put_wholes;
 use library_records::record_from;
-use lines::Made;
+use text::Made;
 
-fn give_made(a: Made, whole: &mut [u64]) -> u32
-    requires { ⌜ 1 ≤ length (now whole) ⌝ }
-    ensures { λ r. ⌜ GivenWholes (madeTold a) (now (whole .entry)) (now (whole .exit)) r ⌝ }
+// The length of a line that was made.
+pub fn give_made(a: Made, whole: &mut [u64]) -> u32
+    ensures { λ r. ⌜ GivenWholes (roomFor (leb 1 (length (now (whole .entry)))) (madeTold a)) (now (whole .entry)) (now (whole .exit)) r ⌝ }
 {
+    if whole.len() < 1 {
+        return 15;
+    }
     match a {
         Made::Line(n) => {
             let zs = [n as u64];
@@ -25,7 +28,7 @@ fn give_made(a: Made, whole: &mut [u64]) -> u32
 
 #[no_mangle]
 pub extern "C" fn cabin_heading(line: &mut [u8], whole: &mut [u64]) -> u32
-    ensures { λ r. ⌜ (GivenWholes (lineIn headingText (now (line .entry)) (now (whole .entry))) (now (whole .entry)) (now (whole .exit)) r) × (now (line .exit) ≡ bytesAfter (lineIn headingText (now (line .entry)) (now (whole .entry))) (inFront headingText (now (line .entry))) (now (line .entry))) ⌝ }
+    ensures { λ r. ⌜ (GivenWholes (lineIn lineRoom headingText (now (line .entry)) (now (whole .entry))) (now (whole .entry)) (now (whole .exit)) r) × (now (line .exit) ≡ bytesAfter (lineIn lineRoom headingText (now (line .entry)) (now (whole .entry))) (inFront headingText (now (line .entry))) (now (line .entry))) ⌝ }
 {
     if whole.len() < 1 {
         return 15;
@@ -35,7 +38,7 @@ pub extern "C" fn cabin_heading(line: &mut [u8], whole: &mut [u64]) -> u32
 
 #[no_mangle]
 pub extern "C" fn cabin_refused_line(number: u8, at: u64, line: &mut [u8], whole: &mut [u64]) -> u32
-    ensures { λ r. ⌜ (GivenWholes (lineIn (refusedText number at) (now (line .entry)) (now (whole .entry))) (now (whole .entry)) (now (whole .exit)) r) × (now (line .exit) ≡ bytesAfter (lineIn (refusedText number at) (now (line .entry)) (now (whole .entry))) (inFront (refusedText number at) (now (line .entry))) (now (line .entry))) ⌝ }
+    ensures { λ r. ⌜ (GivenWholes (lineIn lineRoom (refusedText number at) (now (line .entry)) (now (whole .entry))) (now (whole .entry)) (now (whole .exit)) r) × (now (line .exit) ≡ bytesAfter (lineIn lineRoom (refusedText number at) (now (line .entry)) (now (whole .entry))) (inFront (refusedText number at) (now (line .entry))) (now (line .entry))) ⌝ }
 {
     if whole.len() < 1 {
         return 15;

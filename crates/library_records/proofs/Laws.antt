@@ -8,7 +8,7 @@ use lib.ListN.{length}
 use lib.Ieee.{Float}
 use Rattle.session.specs.declared.record.Record.{Record}
 use Rattle.session.specs.declared.record.Record.the-variants as K
-use Rattle.session.specs.Kinds.{lengthOf}
+use Rattle.session.specs.Kinds.{recordLength}
 use Rattle.session.specs.Layout.{kindIn}
 use Rattle.session.specs.Offset.{offsetBytes}
 use Rattle.session.specs.Decode.{allowedIn}
@@ -44,7 +44,7 @@ either false false k x d = refl
 pub write-bytes : (d : List ℕ) (at : ℕ) (r : Record) → bufferOf d at r ≡ bytesAfter (roomFor true (roomFor true (writtenTold (writtenOf d at r)))) (recordWritten d at r) d
 unfolding roomFor
 write-bytes d at r =
-    either (not (allowedIn r)) (not (hasRoom at (lengthOf (kindIn r)) (length d))) (at + lengthOf (kindIn r)) (recordWritten d at r) d
+    either (not (allowedIn r)) (not (hasRoom at (recordLength (kindIn r)) (length d))) (at + recordLength (kindIn r)) (recordWritten d at r) d
 
 pub offset-bytes : (d : List ℕ) (at : ℕ) (z : ℤ) → offsetBuffer d at z ≡ bytesAfter (roomFor true (writtenTold (offsetWritten d at z))) (written d at 8 (offsetBytes z)) d
 unfolding roomFor

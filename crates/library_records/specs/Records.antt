@@ -14,7 +14,7 @@ use Rattle.session.specs.declared.record.Record.{Record}
 use Rattle.session.specs.declared.Place.{Place}
 use Rattle.session.specs.declared.Reading.{Reading}
 use Rattle.session.specs.declared.Reading.the-variants as R
-use Rattle.session.specs.Kinds.{numberOf, lengthOf}
+use Rattle.session.specs.Kinds.{kindNumber, recordLength}
 use Rattle.session.specs.Layout.{recordWith, kindIn, vehicleIn, byteIn, timeIn, numbersIn, bytesOf}
 use Rattle.session.specs.Offset.{offsetBytes}
 use Rattle.session.specs.Read.{readAt}
@@ -27,7 +27,7 @@ use Rattle.lent.specs.Given.{Told, answer, refused, roomFor}
 
 unfoldable pub readTold : Reading → Told
 readTold (R.Record r p) =
-    answer (numbersIn r) (numberOf (kindIn r) ∷ p .at ∷ bitsOf (p .offset) ∷ vehicleIn r ∷ byteIn r ∷ bitsOf (timeIn r) ∷ [])
+    answer (numbersIn r) (kindNumber (kindIn r) ∷ p .at ∷ bitsOf (p .offset) ∷ vehicleIn r ∷ byteIn r ∷ bitsOf (timeIn r) ∷ [])
 readTold (R.Offset p) = answer [] (4 ∷ p .at ∷ bitsOf (p .offset) ∷ [])
 readTold R.End = answer [] (0 ∷ [])
 readTold (R.Refused n p) = refused n
@@ -69,7 +69,7 @@ abbrev pub written : List ℕ → ℕ → ℕ → List ℕ → List ℕ
 written d at n x = take at d ++ (x ++ drop (at + n) d)
 
 abbrev pub recordWritten : List ℕ → ℕ → Record → List ℕ
-recordWritten d at r = written d at (lengthOf (kindIn r)) (bytesOf r)
+recordWritten d at r = written d at (recordLength (kindIn r)) (bytesOf r)
 
 -- ---- the local offset's record
 

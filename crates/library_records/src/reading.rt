@@ -3,7 +3,7 @@ ghost use Prim.Native.Nat.{_≤_};
 ghost use mathlib.Core.Path.{_≡_};
 ghost use lib.ListN.{length};
 ghost use Rattle.field.specs.Bytes.{bitsOf};
-ghost use Rattle.session.specs.Kinds.{numberOf};
+ghost use Rattle.session.specs.Kinds.{kindNumber};
 ghost use Rattle.session.specs.Layout.{kindIn, vehicleIn, byteIn, timeIn, numbersIn};
 ghost use Rattle.session.specs.declared.Reading.the-variants as R;
 ghost use Rattle.lent.specs.Given.{Given, putIn};
@@ -24,7 +24,7 @@ pub struct Head {
 }
 
 pub fn head_of(r: Record) -> Head
-    ensures { λ h. ⌜ (h .kind ≡ numberOf (kindIn r)) × (h .vehicle ≡ vehicleIn r) × (h .byte ≡ byteIn r) × (h .time ≡ timeIn r) ⌝ }
+    ensures { λ h. ⌜ (h .kind ≡ kindNumber (kindIn r)) × (h .vehicle ≡ vehicleIn r) × (h .byte ≡ byteIn r) × (h .time ≡ timeIn r) ⌝ }
 {
     match r {
         Record::State(x) => Head {

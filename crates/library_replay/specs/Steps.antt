@@ -31,9 +31,9 @@ abbrev pub bodyIn : Vehicle → ℕ
 bodyIn Unset = 0
 bodyIn (Set f) = f .body
 
-abbrev pub timeIn : Vehicle → ℕ
-timeIn Unset = 0
-timeIn (Set f) = bitsOf (f .time)
+abbrev pub vehicleTime : Vehicle → ℕ
+vehicleTime Unset = 0
+vehicleTime (Set f) = bitsOf (f .time)
 
 abbrev pub stateHeld : Vehicle → State
 stateHeld Unset = record { rx = f0; ry = f0; rz = f0; vx = f0; vy = f0; vz = f0 }
@@ -60,7 +60,7 @@ replayFrom d w = record {
 
 abbrev pub heldWholes : ℕ → Replay → List ℕ
 heldWholes k p =
-    k ∷ setIn (p .v0) ∷ bodyIn (p .v0) ∷ timeIn (p .v0) ∷ setIn (p .v1) ∷ bodyIn (p .v1) ∷ timeIn (p .v1) ∷ []
+    k ∷ setIn (p .v0) ∷ bodyIn (p .v0) ∷ vehicleTime (p .v0) ∷ setIn (p .v1) ∷ bodyIn (p .v1) ∷ vehicleTime (p .v1) ∷ []
 
 abbrev pub bothNumbers : State → State → List Float → List Float
 bothNumbers a b xs =

@@ -3,7 +3,7 @@ ghost use mathlib.Core.Path.{_≡_};
 ghost use mathlib.Core.List.{[], _∷_};
 ghost use Rattle.field.specs.Bytes.{bitsOf};
 ghost use Rattle.lent.specs.Given.{putIn};
-ghost use Rattle.library_replay.specs.Steps.{setIn, bodyIn, timeIn, stateHeld, bodyFrom, vehicleFrom, secondIn};
+ghost use Rattle.library_replay.specs.Steps.{setIn, bodyIn, vehicleTime, stateHeld, bodyFrom, vehicleFrom, secondIn};
 ghost use Rattle.library_replay.specs.Steps.{replayFrom, heldWholes, heldNumbers};
 use flight::Flight;
 use lent::bits_of;
@@ -95,7 +95,7 @@ fn time_bits(f: Flight) -> u64
 }
 
 fn time_in(v: Vehicle) -> u64
-    ensures { λ r. ⌜ r ≡ timeIn v ⌝ }
+    ensures { λ r. ⌜ r ≡ vehicleTime v ⌝ }
 {
     match v {
         Vehicle::Unset => 0,

@@ -10,7 +10,7 @@ use Rattle.settings.specs.declared.Looked.{Looked}
 use Rattle.settings.specs.declared.Looked.the-variants as K
 use Rattle.settings.specs.declared.Stored.{Stored}
 use Rattle.settings.specs.declared.Stored.the-variants as S
-use Rattle.settings.specs.History.{lookUp, versionIn, storedOf, backOf, after}
+use Rattle.settings.specs.History.{lookUp, versionIn, storedOf, backOf, bufferAfter}
 use Rattle.lent.specs.Given.{Told, answer, refused, roomFor}
 
 -- ---- a version: mu, the radius, the two fractions; the body
@@ -33,7 +33,7 @@ storeIn d used x w = roomFor (leb 2 (length w)) (storedTold (storedOf d used x))
 
 -- the buffer afterwards: as it was where the call is refused
 abbrev pub storeAfter : List ℕ → ℕ → Setting → List ℕ → List ℕ
-storeAfter d used x w = cond (leb 2 (length w)) (after (storedOf d used x) d used x) d
+storeAfter d used x w = cond (leb 2 (length w)) (bufferAfter (storedOf d used x) d used x) d
 
 -- ---- gone back
 
@@ -41,4 +41,4 @@ abbrev pub backIn : List ℕ → ℕ → ℕ → List ℕ → Told
 backIn d used k w = roomFor (leb 2 (length w)) (storedTold (backOf d used k))
 
 abbrev pub backAfter : List ℕ → ℕ → ℕ → List ℕ → List ℕ
-backAfter d used k w = cond (leb 2 (length w)) (after (backOf d used k) d used (versionIn (take used d) k)) d
+backAfter d used k w = cond (leb 2 (length w)) (bufferAfter (backOf d used k) d used (versionIn (take used d) k)) d

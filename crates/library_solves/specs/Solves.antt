@@ -10,7 +10,7 @@ use lib.Ieee.{Float}
 use Rattle.field.specs.Bytes.{bitsOf}
 use Rattle.iterator.specs.declared.Tried.{Tried}
 use Rattle.iterator.specs.declared.Tried.the-variants as P
-use Rattle.iterator.specs.Single.{trialOf}
+use Rattle.iterator.specs.Single.{singleTrialOf}
 use Rattle.solve.specs.declared.Advanced.{Advanced}
 use Rattle.solve.specs.declared.Advanced.the-variants as Ad
 use Rattle.solve.specs.declared.Transferred.{Transferred}
@@ -29,7 +29,7 @@ triedTold (P.Refused n) = refused n
 -- 14 for a judgement that is none of the four
 unfoldable pub trialTold : Float → ℤ → ℤ → ℕ → Float → ℕ → Float → ℕ → Told
 trialTold asked lo hi j s k t n =
-    cond (leb j 3 && leb k 3) (triedTold (trialOf asked lo hi (judgementFrom j s) (judgementFrom k t) n)) (refused 14)
+    cond (leb j 3 && leb k 3) (triedTold (singleTrialOf asked lo hi (judgementFrom j s) (judgementFrom k t) n)) (refused 14)
 
 abbrev pub trialIn : Float → ℤ → ℤ → ℕ → Float → ℕ → Float → ℕ → List ℕ → Told
 trialIn asked lo hi j s k t n w = roomFor (leb 2 (length w)) (trialTold asked lo hi j s k t n)

@@ -7,7 +7,7 @@ use lib.ListN.{length}
 use lib.Ieee.{Float}
 use Rattle.field.specs.Bytes.{bitsOf}
 use Rattle.session.specs.declared.Place.{Place}
-use Rattle.session.specs.Kinds.{numberOf}
+use Rattle.session.specs.Kinds.{kindNumber}
 use Rattle.session.specs.Layout.{kindIn, vehicleIn, byteIn, timeIn, numbersIn}
 use Rattle.stream.specs.declared.Standing.{Standing}
 use Rattle.stream.specs.declared.Standing.the-variants.{Open, Refused, Ended}
@@ -25,7 +25,7 @@ standingTold Ended = answer [] (0 ∷ [])
 -- else the kind, the place behind it in the part, and as in reading
 unfoldable pub stepTold : Step → Told
 stepTold (P.Record r p n) =
-    answer (numbersIn r) (numberOf (kindIn r) ∷ n ∷ p .at ∷ bitsOf (p .offset) ∷ vehicleIn r ∷ byteIn r ∷ bitsOf (timeIn r) ∷ [])
+    answer (numbersIn r) (kindNumber (kindIn r) ∷ n ∷ p .at ∷ bitsOf (p .offset) ∷ vehicleIn r ∷ byteIn r ∷ bitsOf (timeIn r) ∷ [])
 stepTold (P.Offset p n) = answer [] (4 ∷ n ∷ p .at ∷ bitsOf (p .offset) ∷ [])
 stepTold (P.Stopped s) = standingTold s
 

@@ -4,7 +4,6 @@ mod line;
 
 pub use day::Day;
 pub use day::day_of;
-pub use line::Made;
 pub use line::heading;
 pub use line::name;
 pub use line::record_line;

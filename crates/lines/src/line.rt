@@ -1,21 +1,16 @@
 // The lines themselves: the heading, a record's and a refusal's.
 ghost use mathlib.Core.Path.{_≡_};
 ghost use Rattle.session.specs.Kinds.{nameOf};
-ghost use Rattle.text.specs.Text.{IfFits, Put};
+ghost use Rattle.text.specs.Text.{IfFits, InFront, Put};
 ghost use Rattle.lines.specs.Days.{localOf};
-ghost use Rattle.lines.specs.Lines.{InFront, headingText, recordText, refusedText, stampText, eventText};
+ghost use Rattle.lines.specs.Lines.{lineRoom, headingText, recordText, refusedText, stampText, eventText};
 use crate::day::day_of;
 use session::Kind;
 use session::Record;
-
-// How long the line is, or the number of the refusal.
-pub enum Made {
-    Line(usize),
-    Refused(u32),
-}
+use text::Made;
 
 pub fn heading(buf: &mut [u8]) -> Made
-    ensures { λ r. ⌜ InFront headingText (now (buf .entry)) (now (buf .exit)) r ⌝ }
+    ensures { λ r. ⌜ InFront lineRoom headingText (now (buf .entry)) (now (buf .exit)) r ⌝ }
 {
     if buf.len() < 40 {
         return Made::Refused(15);
@@ -25,7 +20,7 @@ pub fn heading(buf: &mut [u8]) -> Made
 
 // The line of a record, its day and cs by the local clock.
 pub fn record_line(buf: &mut [u8], r: Record, offset: i16) -> Made
-    ensures { λ x. ⌜ InFront (recordText offset r) (now (buf .entry)) (now (buf .exit)) x ⌝ }
+    ensures { λ x. ⌜ InFront lineRoom (recordText offset r) (now (buf .entry)) (now (buf .exit)) x ⌝ }
 {
     if buf.len() < 40 {
         return Made::Refused(15);
@@ -39,7 +34,7 @@ pub fn record_line(buf: &mut [u8], r: Record, offset: i16) -> Made
 
 // The number is one byte: beside the twenty digits that a place can have, a line of 40 bytes holds no more than seven.
 pub fn refused_line(buf: &mut [u8], number: u8, at: u64) -> Made
-    ensures { λ r. ⌜ InFront (refusedText number at) (now (buf .entry)) (now (buf .exit)) r ⌝ }
+    ensures { λ r. ⌜ InFront lineRoom (refusedText number at) (now (buf .entry)) (now (buf .exit)) r ⌝ }
 {
     if buf.len() < 40 {
         return Made::Refused(15);

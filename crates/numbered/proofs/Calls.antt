@@ -1,5 +1,5 @@
--- A call of the library returns 0 where it answers, and nowhere else: no refusal has the number 0. Of a refusal that says
--- nothing could be told. Assumes nothing.
+-- A call for a number, a look or a solve returns 0 where it answers, and nowhere else: no refusal has the number 0. Of a refusal
+-- that says nothing could be told. Assumes nothing.
 use Prim.Native.Nat.{ℕ, zero, suc}
 use native.Mathlib.Omega.{arith}
 use mathlib.Core.Path.{_≡_, refl}
@@ -23,7 +23,7 @@ use Rattle.table.specs.Tests.{firstFailing}
 use Rattle.table.proofs.Laws.{NotRow, not-row}
 use Rattle.iterator.specs.declared.Tried.the-variants as P
 use Rattle.iterator.specs.Rule.{widthOf, pointOf}
-use Rattle.iterator.specs.Single.{allFinite, inGrid, soundOf, nextTrialOf, trialOf}
+use Rattle.iterator.specs.Single.{allTimesFinite, inGrid, soundOf, nextTrialOf, singleTrialOf}
 use Rattle.theta.specs.Theta.{sweepOf, thetaTests}
 use Rattle.theta.specs.Theta as Th
 use Rattle.apsides.specs.declared.Apsides.the-variants as A
@@ -43,11 +43,10 @@ use Rattle.solve.specs.Answers.{advanceTo, transferVelocityTo}
 use Rattle.solve.proofs.NotZero.{AdvancedNumbered, advance-numbered, advance-to-numbered, TransferredNumbered, transfer-numbered, transfer-to-numbered}
 use Rattle.settings.specs.declared.Looked.{Looked}
 use Rattle.settings.specs.declared.Looked.the-variants as L
-use Rattle.settings.specs.Layout.{countOf, wholeOf}
-use Rattle.settings.specs.History.{versionIn, lookUp}
+use Rattle.settings.specs.History.{lookUp}
 use Rattle.graded.specs.Graded.{fractionsOf, gradedAdvanced, gradedTransferred, advanceBy, transferBy}
 use Rattle.cases.specs.Cases.{judgementFrom, wayFrom, beginningFrom, runMisjudged}
-use Rattle.lent.specs.Given.{Told, refused, numberOf, roomFor, vectorIn, stateIn}
+use Rattle.lent.specs.Given.{Told, refused, vectorIn, stateIn}
 use Rattle.library.specs.Answers.{oneTold, oneIn, timeTold, timeIn, apsidesTold, apsidesIn, wheelTold, wheelIn, sightTold, sightIn}
 use Rattle.library_solves.specs.Solves.{triedTold, trialTold, trialIn, advancedTold, advanceIn, transferredTold, transferTold, transferIn}
 use Rattle.library_advances.specs.Advances.{judgedFor, advancedWithinTold, advanceWithinIn, advanceByIn}
@@ -57,30 +56,7 @@ use Rattle.reach.specs.declared.Reached.the-variants as R
 use Rattle.lambert.specs.declared.Way.{Way}
 use Rattle.iterator.specs.declared.Beginning.{Beginning}
 use Rattle.numbered.specs.Zero.{ZeroAnswers}
-
--- ---- a refusal by a number of its own
-
-refusal : (n : ℕ) → (n ≡ 0 → ⊥) → ZeroAnswers (refused n)
-unfolding numberOf
-refusal n h e = absurd (h e)
-
-in-room : (b : Bool) (t : Told) → ZeroAnswers t → ZeroAnswers (roomFor b t)
-unfolding roomFor
-in-room true t h = h
-in-room false t h = refusal 15 (λ e. omega arith)
-
--- 30 and 23 of the settings
-abbrev LookedNumbered : Looked → Type 0
-LookedNumbered (L.Found x) = Prim.Unit
-LookedNumbered (L.Refused n) = n ≡ 0 → ⊥
-
-looked-numbered : (used : List ℕ) (k : ℕ) → LookedNumbered (lookUp used k)
-looked-numbered used k = go (not (wholeOf used)) (leb 1 k && leb k (countOf (length used)))
-  where
-    go : (b c : Bool) → LookedNumbered (cond b (L.Refused 30) (cond c (L.Found (versionIn used k)) (L.Refused 23)))
-    go true c = λ e. omega arith
-    go false true = tt
-    go false false = λ e. omega arith
+use Rattle.numbered.proofs.Refusals.{refusal, in-room, LookedNumbered, looked-numbered}
 
 -- ---- a number
 
@@ -119,8 +95,8 @@ s-answers xi d = one (sAnswer xi) d (of-series (not (finite xi)) (not (inRange x
 
 -- ---- a transfer time, and the apsides: the first test that fails
 
-time-by : (p : Test) (s : State) (x : Reached) → NotRow 0 p → ZeroAnswers (timeTold (Th.answered p (Th.toldOf s x)))
-unfolding timeTold Th.answered Th.toldOf
+time-by : (p : Test) (s : State) (x : Reached) → NotRow 0 p → ZeroAnswers (timeTold (Th.answered p (Th.transferTimeBy s x)))
+unfolding timeTold Th.answered Th.transferTimeBy
 time-by (Failed f) s x h = refusal (f .number) h
 time-by Passed s (R.Time t) h = λ e. refl
 time-by Passed s (R.Under e) h = refusal 8 (λ z. omega arith)
@@ -147,7 +123,7 @@ apsides-answers mu s d w =
 
 -- ---- the thumbwheel, and the sight line
 
-wheel-by : (b : Bool) (x : Direction) → ZeroAnswers (wheelTold (cond b (W.At x) (W.Refused 16)))
+wheel-by : (b : Bool) (x : Direction) → ZeroAnswers (wheelTold (cond b (W.Angle x) (W.Refused 16)))
 unfolding wheelTold
 wheel-by true x = λ e. refl
 wheel-by false x = refusal 16 (λ e. omega arith)
@@ -180,14 +156,14 @@ trial-by false false false true n = λ e. refl
 trial-by false false false false n = λ e. refl
 
 pub trial-answers : (asked : Float) (lo hi : ℤ) (j : ℕ) (s : Float) (k : ℕ) (t : Float) (n : ℕ) (w : List ℕ) → ZeroAnswers (trialIn asked lo hi j s k t n w)
-unfolding trialTold trialOf nextTrialOf
+unfolding trialTold singleTrialOf nextTrialOf
 trial-answers asked lo hi j s k t n w = in-room (leb 2 (length w)) _ (judged (leb j 3 && leb k 3))
   where
-    judged : (b : Bool) → ZeroAnswers (cond b (triedTold (trialOf asked lo hi (judgementFrom j s) (judgementFrom k t) n)) (refused 14))
+    judged : (b : Bool) → ZeroAnswers (cond b (triedTold (singleTrialOf asked lo hi (judgementFrom j s) (judgementFrom k t) n)) (refused 14))
     judged true =
         let below = judgementFrom j s in
         let above = judgementFrom k t in
-        trial-by (not (allFinite asked below above)) (not (soundOf asked lo hi below above)) (not (inGrid lo hi)) (ltb 1 (widthOf lo hi)) (pointOf asked lo hi below above n)
+        trial-by (not (allTimesFinite asked below above)) (not (soundOf asked lo hi below above)) (not (inGrid lo hi)) (ltb 1 (widthOf lo hi)) (pointOf asked lo hi below above n)
     judged false = refusal 14 (λ e. omega arith)
 
 -- ---- the advance

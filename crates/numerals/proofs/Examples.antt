@@ -7,15 +7,15 @@ use lib.Count.{trailingZeros}
 use Rattle.text.specs.Text.{ascii}
 use Rattle.real.specs.F64.{bits}
 use Rattle.words.specs.Words.{isOf, upTo, from}
-use Rattle.numerals.specs.Numbers.{digitOf, areDigits, valueOf, readOf, decimal, signedOf, patternOf, wellFormed, unsignedOf, numberOf}
+use Rattle.numerals.specs.Numbers.{digitOf, areDigits, valueOf, wordDigits, wordDecimal, wordSigned, patternOf, wellFormed, unsignedOf, wordNumber}
 use Rattle.numerals.specs.declared.digits.Signed.the-variants as S
 use Rattle.numerals.specs.declared.reals.Number.the-variants as N
 
-numbers : map numberOf (ascii "-1.5" ∷ ascii "-0" ∷ ascii "x7ff8000000000001" ∷ ascii "1." ∷ ascii ".5" ∷ ascii "1234567890123456" ∷ [])
+numbers : map wordNumber (ascii "-1.5" ∷ ascii "-0" ∷ ascii "x7ff8000000000001" ∷ ascii "1." ∷ ascii ".5" ∷ ascii "1234567890123456" ∷ [])
     ≡ N.Read (bits 0xBFF8_0000_0000_0000) ∷ N.Read (bits 0x8000_0000_0000_0000) ∷ N.Read nan ∷ N.Unread ∷ N.Unread ∷ N.Unread ∷ []
-unfolding numberOf patternOf unsignedOf wellFormed readOf areDigits valueOf digitOf from upTo isOf ofBits ofFields odd ofInt round units size span climb div neg trailingZeros
+unfolding wordNumber patternOf unsignedOf wellFormed wordDigits areDigits valueOf digitOf from upTo isOf ofBits ofFields odd ofInt round units size span climb div neg trailingZeros
 numbers = refl
 
-lowest : signedOf (ascii "-9223372036854775808") ≡ S.Read (negsuc 9223372036854775807)
-unfolding signedOf decimal readOf areDigits valueOf digitOf
+lowest : wordSigned (ascii "-9223372036854775808") ≡ S.Read (negsuc 9223372036854775807)
+unfolding wordSigned wordDecimal wordDigits areDigits valueOf digitOf
 lowest = refl

@@ -19,7 +19,7 @@ use Rattle.facts.proofs.Truth.{and-0, and-1}
 use Rattle.words.specs.declared.Byte.the-variants.{Point}
 use Rattle.numerals.specs.declared.digits.Whole.{Whole}
 use Rattle.words.specs.Words.{upTo, from}
-use Rattle.numerals.specs.Numbers.{digitOf, areDigits, valueOf, readOf, places, allDigits, wellFormed, overTen, unsignedOf}
+use Rattle.numerals.specs.Numbers.{digitOf, areDigits, valueOf, wordDigits, decimals, allDigits, wellFormed, overTen, unsignedOf}
 use Rattle.numerals.proofs.Values.{read-is}
 use Rattle.numerals.specs.declared.digits.Whole.the-variants as W
 use Rattle.numerals.specs.declared.reals.Number.the-variants as N
@@ -76,21 +76,21 @@ unfolding wellFormed
 sizes s e = leb-true (length (allDigits s)) 15 (and-1 (not (eqb (length (from Point s)) 1)) _ (and-1 (not (eqb (length (upTo Point s)) 0)) _ e))
 
 -- what is read is the nearest f64 to the whole number of the digits over the power of ten: IEEE 754's one rounding of the exact fraction
-pub nearest : (s : List ℕ) (x : Float) → unsignedOf s ≡ N.Read x → x ≡ round binary64 false (valueOf 10 0 (allDigits s)) (10 ^ length (places s))
+pub nearest : (s : List ℕ) (x : Float) → unsignedOf s ≡ N.Read x → x ≡ round binary64 false (valueOf 10 0 (allDigits s)) (10 ^ length (decimals s))
 unfolding unsignedOf
 nearest s x e = formed (wellFormed s) refl e
   where
-    read : (w : Whole) → wellFormed s ≡ true → readOf 10 0 (allDigits s) ≡ w → overTen (length (places s)) w ≡ N.Read x → x ≡ round binary64 false (valueOf 10 0 (allDigits s)) (10 ^ length (places s))
+    read : (w : Whole) → wellFormed s ≡ true → wordDigits 10 0 (allDigits s) ≡ w → overTen (length (decimals s)) w ≡ N.Read x → x ≡ round binary64 false (valueOf 10 0 (allDigits s)) (10 ^ length (decimals s))
     read (W.Read n) f g h =
         let r = read-is 10 0 (allDigits s) n g in
         let l = sizes s f in
-        let p : length (places s) ≤ 15 = omega (arith, length-append (upTo Point s) (places s)) in
+        let p : length (decimals s) ≤ 15 = omega (arith, length-append (upTo Point s) (decimals s)) in
         let u : n ≤ 2 ^ 53 = le-of-lt (lt-of-lt-of-le (rw (r .1, one-mul (10 ^ length (allDigits s))) at (below 10 0 (allDigits s) (r .0))) (le-trans (pow-le-pow-right {n = 10} (lit< tt) l) (lit≤ tt))) in
-        let v : 10 ^ length (places s) ≤ 2 ^ 53 = le-trans (pow-le-pow-right {n = 10} (lit< tt) p) (lit≤ tt) in
-        let y : div binary64 (ofInt binary64 (pos n)) (ofInt binary64 (pos (10 ^ length (places s)))) ≡ x = cc in
-        sym y ∙ exact n (length (places s)) u v ∙ rw (r .1) refl
+        let v : 10 ^ length (decimals s) ≤ 2 ^ 53 = le-trans (pow-le-pow-right {n = 10} (lit< tt) p) (lit≤ tt) in
+        let y : div binary64 (ofInt binary64 (pos n)) (ofInt binary64 (pos (10 ^ length (decimals s)))) ≡ x = cc in
+        sym y ∙ exact n (length (decimals s)) u v ∙ rw (r .1) refl
     read W.Unread f g h = let z : _≡_ {A = ℕ} 0 1 = cc in absurd (omega arith)
 
-    formed : (b : Bool) → wellFormed s ≡ b → cond b (overTen (length (places s)) (readOf 10 0 (allDigits s))) N.Unread ≡ N.Read x → x ≡ round binary64 false (valueOf 10 0 (allDigits s)) (10 ^ length (places s))
-    formed true f h = read (readOf 10 0 (allDigits s)) f refl h
+    formed : (b : Bool) → wellFormed s ≡ b → cond b (overTen (length (decimals s)) (wordDigits 10 0 (allDigits s))) N.Unread ≡ N.Read x → x ≡ round binary64 false (valueOf 10 0 (allDigits s)) (10 ^ length (decimals s))
+    formed true f h = read (wordDigits 10 0 (allDigits s)) f refl h
     formed false f h = let z : _≡_ {A = ℕ} 0 1 = cc in absurd (omega arith)

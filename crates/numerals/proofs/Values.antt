@@ -10,7 +10,7 @@ use lib.ListN.{length, getD, drop, drop-of-length-le}
 use lib.Dec.{ltb}
 use borrow.Author.Tests.{lt-ltb, le-ltb, ltb-false}
 use Rattle.numerals.specs.declared.digits.Whole.the-variants.{Read, Unread}
-use Rattle.numerals.specs.Numbers.{digitOf, areDigits, valueOf, readOf}
+use Rattle.numerals.specs.Numbers.{digitOf, areDigits, valueOf, wordDigits}
 use Rattle.words.proofs.Searches.{step}
 
 -- a number with digits behind it is no smaller
@@ -29,16 +29,16 @@ value-cons : (base n b : ℕ) (s : List ℕ) → valueOf base n (b ∷ s) ≡ va
 unfolding valueOf
 value-cons base n b s = refl
 
-read-no : (base v : ℕ) (s : List ℕ) → areDigits base s ≡ false → readOf base v s ≡ Unread
-unfolding readOf
+read-no : (base v : ℕ) (s : List ℕ) → areDigits base s ≡ false → wordDigits base v s ≡ Unread
+unfolding wordDigits
 read-no base v s e = rw e
 
-read-large : (base v : ℕ) (s : List ℕ) → 2 ^ 64 ≤ valueOf base v s → readOf base v s ≡ Unread
-unfolding readOf
+read-large : (base v : ℕ) (s : List ℕ) → 2 ^ 64 ≤ valueOf base v s → wordDigits base v s ≡ Unread
+unfolding wordDigits
 read-large base v s h = rw (le-ltb (valueOf base v s) (2 ^ 64) h, and-false (areDigits base s)) refl
 
-read-yes : (base v : ℕ) (s : List ℕ) → areDigits base s ≡ true → valueOf base v s < 2 ^ 64 → readOf base v s ≡ Read (valueOf base v s)
-unfolding readOf
+read-yes : (base v : ℕ) (s : List ℕ) → areDigits base s ≡ true → valueOf base v s < 2 ^ 64 → wordDigits base v s ≡ Read (valueOf base v s)
+unfolding wordDigits
 read-yes base v s e h = rw (e, lt-ltb (valueOf base v s) (2 ^ 64) h) refl
 
 -- ---- the loop: i bytes are read, and n is their number
@@ -50,14 +50,14 @@ pub record Reading (base v : ℕ) (s : List ℕ) (n i : ℕ) : Type 0 where
   pub small : n < 2 ^ 64
 
 module _ (base v : ℕ) (s : List ℕ) (n i : ℕ) (r : Reading base v s n i) where
-  pub bad-digit : i < length s → base ≤ digitOf (getD s i 0) → Unread ≡ readOf base v s
+  pub bad-digit : i < length s → base ≤ digitOf (getD s i 0) → Unread ≡ wordDigits base v s
   bad-digit h k =
       sym (read-no base v s (sym (r .digits) ∙ ap (areDigits base) (step s i h) ∙ digits-cons base (getD s i 0) (drop (i + 1) s) false (le-ltb _ _ k)))
 
   next : i < length s → valueOf base (n * base + digitOf (getD s i 0)) (drop (i + 1) s) ≡ valueOf base v s
   next h = sym (value-cons base n (getD s i 0) (drop (i + 1) s)) ∙ ap (valueOf base n) (sym (step s i h)) ∙ r .number
 
-  pub too-large : i < length s → 1 ≤ base → 2 ^ 64 ≤ n * base + digitOf (getD s i 0) → Unread ≡ readOf base v s
+  pub too-large : i < length s → 1 ≤ base → 2 ^ 64 ≤ n * base + digitOf (getD s i 0) → Unread ≡ wordDigits base v s
   too-large h b k =
       sym (read-large base v s (rw (next h) at (le-trans k (grows base (n * base + digitOf (getD s i 0)) (drop (i + 1) s) b))))
 
@@ -72,7 +72,7 @@ module _ (base v : ℕ) (s : List ℕ) (n i : ℕ) (r : Reading base v s n i) wh
         small = l;
       }
 
-  pub all-read : length s ≤ i → Read n ≡ readOf base v s
+  pub all-read : length s ≤ i → Read n ≡ wordDigits base v s
   unfolding areDigits valueOf
   all-read h =
       let z : drop i s ≡ [] = drop-of-length-le s h in
@@ -119,12 +119,12 @@ was-read true w n e = (refl, go (ltb w (2 ^ 64)) e)
     go false h = let z : _≡_ {A = ℕ} 0 1 = cc in absurd (omega arith)
 was-read false w n e = let z : _≡_ {A = ℕ} 0 1 = cc in absurd (omega arith)
 
-pub read-is : (base v : ℕ) (s : List ℕ) (n : ℕ) → readOf base v s ≡ Read n → (areDigits base s ≡ true) × (valueOf base v s ≡ n)
-unfolding readOf
+pub read-is : (base v : ℕ) (s : List ℕ) (n : ℕ) → wordDigits base v s ≡ Read n → (areDigits base s ≡ true) × (valueOf base v s ≡ n)
+unfolding wordDigits
 read-is base v s n e = was-read (areDigits base s) (valueOf base v s) n e
 
-pub read-both : (base v : ℕ) (a f : List ℕ) (n : ℕ) → readOf base v a ≡ Read n → readOf base v (a ++ f) ≡ readOf base n f
-unfolding readOf
+pub read-both : (base v : ℕ) (a f : List ℕ) (n : ℕ) → wordDigits base v a ≡ Read n → wordDigits base v (a ++ f) ≡ wordDigits base n f
+unfolding wordDigits
 read-both base v a f n e =
     let p = read-is base v a n e in
     rw (digits-append base a f, value-append base v a f, p .0, p .1) refl
@@ -137,10 +137,10 @@ was-not true w e = go (ltb w (2 ^ 64)) refl e
     go false g h = inr (ltb-false w (2 ^ 64) g)
 was-not false w e = inl refl
 
-pub read-neither : (base v : ℕ) (a f : List ℕ) → 1 ≤ base → readOf base v a ≡ Unread → readOf base v (a ++ f) ≡ Unread
-unfolding readOf
+pub read-neither : (base v : ℕ) (a f : List ℕ) → 1 ≤ base → wordDigits base v a ≡ Unread → wordDigits base v (a ++ f) ≡ Unread
+unfolding wordDigits
 read-neither base v a f b e = go (was-not (areDigits base a) (valueOf base v a) e)
   where
-    go : (areDigits base a ≡ false) ⊎ (2 ^ 64 ≤ valueOf base v a) → readOf base v (a ++ f) ≡ Unread
+    go : (areDigits base a ≡ false) ⊎ (2 ^ 64 ≤ valueOf base v a) → wordDigits base v (a ++ f) ≡ Unread
     go (inl d) = read-no base v (a ++ f) (rw (digits-append base a f, d) refl)
     go (inr l) = read-large base v (a ++ f) (rw (value-append base v a f) (le-trans l (grows base (valueOf base v a) f b)))

@@ -37,8 +37,8 @@ valueOf base v [] = v
 valueOf base v (b ∷ s) = valueOf base (v * base + digitOf b) s
 
 -- the same, where each byte is a digit and a u64 holds the number
-unfoldable pub readOf : ℕ → ℕ → List ℕ → Whole
-readOf base v s = cond (areDigits base s && ltb (valueOf base v s) (2 ^ 64)) (W.Read (valueOf base v s)) W.Unread
+unfoldable pub wordDigits : ℕ → ℕ → List ℕ → Whole
+wordDigits base v s = cond (areDigits base s && ltb (valueOf base v s) (2 ^ 64)) (W.Read (valueOf base v s)) W.Unread
 
 -- ---- whole numbers: an optional minus, and decimal digits
 
@@ -47,16 +47,16 @@ abbrev pub first : List ℕ → ℕ
 first s = getD s 0 0
 
 -- one digit or more
-unfoldable pub decimal : List ℕ → Whole
-decimal s = cond (eqb (length s) 0) W.Unread (readOf 10 0 s)
+unfoldable pub wordDecimal : List ℕ → Whole
+wordDecimal s = cond (eqb (length s) 0) W.Unread (wordDigits 10 0 s)
 
 -- no u64 is below 0
 abbrev pub onlyZero : Whole → Whole
 onlyZero (W.Read n) = cond (eqb n 0) (W.Read 0) W.Unread
 onlyZero W.Unread = W.Unread
 
-unfoldable pub wholeOf : List ℕ → Whole
-wholeOf s = cond (eqb (first s) 45) (onlyZero (decimal (drop 1 s))) (decimal s)
+unfoldable pub wordWhole : List ℕ → Whole
+wordWhole s = cond (eqb (first s) 45) (onlyZero (wordDecimal (drop 1 s))) (wordDecimal s)
 
 -- an i64 lies in −2^63..2^63−1
 abbrev pub plain : Whole → Signed
@@ -67,8 +67,8 @@ abbrev pub minus : Whole → Signed
 minus (W.Read n) = cond (leb n (2 ^ 63)) (S.Read (negℤ (pos n))) S.Unread
 minus W.Unread = S.Unread
 
-unfoldable pub signedOf : List ℕ → Signed
-signedOf s = cond (eqb (first s) 45) (minus (decimal (drop 1 s))) (plain (decimal s))
+unfoldable pub wordSigned : List ℕ → Signed
+wordSigned s = cond (eqb (first s) 45) (minus (wordDecimal (drop 1 s))) (plain (wordDecimal s))
 
 -- ---- numbers
 
@@ -78,14 +78,14 @@ ofPattern (W.Read n) = N.Read (bits n)
 ofPattern W.Unread = N.Unread
 
 unfoldable pub patternOf : List ℕ → Number
-patternOf s = cond (eqb (length s) 16) (ofPattern (readOf 16 0 s)) N.Unread
+patternOf s = cond (eqb (length s) 16) (ofPattern (wordDigits 16 0 s)) N.Unread
 
 -- the digits behind the point, and all digits
-abbrev pub places : List ℕ → List ℕ
-places s = drop 1 (from Point s)
+abbrev pub decimals : List ℕ → List ℕ
+decimals s = drop 1 (from Point s)
 
 abbrev pub allDigits : List ℕ → List ℕ
-allDigits s = upTo Point s ++ places s
+allDigits s = upTo Point s ++ decimals s
 
 -- a digit or more before the point, a digit or more behind it if it is there, at most 15 digits in all
 unfoldable pub wellFormed : List ℕ → Bool
@@ -97,15 +97,15 @@ overTen k (W.Read n) = N.Read (Ieee.ofInt binary64 (pos n) ⊘ Ieee.ofInt binary
 overTen k W.Unread = N.Unread
 
 unfoldable pub unsignedOf : List ℕ → Number
-unsignedOf s = cond (wellFormed s) (overTen (length (places s)) (readOf 10 0 (allDigits s))) N.Unread
+unsignedOf s = cond (wellFormed s) (overTen (length (decimals s)) (wordDigits 10 0 (allDigits s))) N.Unread
 
 abbrev pub negated : Number → Number
 negated (N.Read x) = N.Read (Ieee.neg x)
 negated N.Unread = N.Unread
 
 -- `x` and the bits, or a decimal with an optional sign
-unfoldable pub numberOf : List ℕ → Number
-numberOf s =
+unfoldable pub wordNumber : List ℕ → Number
+wordNumber s =
     cond (eqb (first s) 120) (patternOf (drop 1 s))
     (cond (eqb (first s) 45) (negated (unsignedOf (drop 1 s)))
     (cond (eqb (first s) 43) (unsignedOf (drop 1 s)) (unsignedOf s)))

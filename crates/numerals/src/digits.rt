@@ -1,7 +1,7 @@
 // Digits, and whole numbers: an optional minus, and decimal digits.
 ghost use Prim.Native.Nat.{_≤_};
 ghost use mathlib.Core.Path.{_≡_};
-ghost use Rattle.numerals.specs.Numbers.{digitOf, readOf, decimal, onlyZero, wholeOf, plain, minus, signedOf};
+ghost use Rattle.numerals.specs.Numbers.{digitOf, wordDigits, wordDecimal, onlyZero, wordWhole, plain, minus, wordSigned};
 
 pub enum Whole {
     Read(u64),
@@ -41,7 +41,7 @@ fn digit_value(b: u8) -> u64
 // The number that digits stand for, with those of v in front.
 pub fn read_digits(s: &[u8], base: u64, v: u64) -> Whole
     requires { ⌜ (1 ≤ base) × (base ≤ 16) ⌝ }
-    ensures { λ r. ⌜ r ≡ readOf base v (now (s .entry)) ⌝ }
+    ensures { λ r. ⌜ r ≡ wordDigits base v (now (s .entry)) ⌝ }
 {
     let mut n = v;
     let mut i = 0;
@@ -60,7 +60,7 @@ pub fn read_digits(s: &[u8], base: u64, v: u64) -> Whole
 }
 
 fn decimal_digits(s: &[u8]) -> Whole
-    ensures { λ r. ⌜ r ≡ decimal (now (s .entry)) ⌝ }
+    ensures { λ r. ⌜ r ≡ wordDecimal (now (s .entry)) ⌝ }
 {
     if s.len() == 0 {
         return Whole::Unread;
@@ -115,7 +115,7 @@ fn positive(w: Whole) -> Signed
 
 // A whole number from 0 to 2^64-1.
 pub fn read_whole(s: &[u8]) -> Whole
-    ensures { λ r. ⌜ r ≡ wholeOf (now (s .entry)) ⌝ }
+    ensures { λ r. ⌜ r ≡ wordWhole (now (s .entry)) ⌝ }
 {
     if s.len() == 0 {
         return Whole::Unread;
@@ -128,7 +128,7 @@ pub fn read_whole(s: &[u8]) -> Whole
 
 // A whole number from -2^63 to 2^63-1.
 pub fn read_signed(s: &[u8]) -> Signed
-    ensures { λ r. ⌜ r ≡ signedOf (now (s .entry)) ⌝ }
+    ensures { λ r. ⌜ r ≡ wordSigned (now (s .entry)) ⌝ }
 {
     if s.len() == 0 {
         return Signed::Unread;

@@ -1,7 +1,7 @@
 // Numbers: `x` and the bits of an f64, or a decimal with an optional sign.
 ghost use Prim.Native.Nat.{_^_, _≤_};
 ghost use mathlib.Core.Path.{_≡_};
-ghost use Rattle.numerals.specs.Numbers.{ofPattern, patternOf, overTen, unsignedOf, negated, numberOf};
+ghost use Rattle.numerals.specs.Numbers.{ofPattern, patternOf, overTen, unsignedOf, negated, wordNumber};
 use crate::digits::Whole;
 use crate::digits::read_digits;
 use words::Byte;
@@ -99,7 +99,7 @@ fn negative(x: Number) -> Number
 }
 
 pub fn read_number(s: &[u8]) -> Number
-    ensures { λ r. ⌜ r ≡ numberOf (now (s .entry)) ⌝ }
+    ensures { λ r. ⌜ r ≡ wordNumber (now (s .entry)) ⌝ }
 {
     if s.len() == 0 {
         return Number::Unread;

@@ -8,7 +8,7 @@ use lib.Dec.{eqb}
 use lib.Ieee.{Float}
 use Rattle.text.specs.Text.{ascii}
 use Rattle.words.specs.Words.{wordAt, isWord}
-use Rattle.numerals.specs.Numbers.{numberOf, wholeOf}
+use Rattle.numerals.specs.Numbers.{wordNumber, wordWhole}
 use Rattle.numerals.specs.declared.reals.Number.{Number}
 use Rattle.numerals.specs.declared.reals.Number.the-variants as N
 use Rattle.numerals.specs.declared.digits.Whole.{Whole}
@@ -35,14 +35,14 @@ numberedBy true n = O.Back n
 numberedBy false n = O.Show n
 
 abbrev pub versionOrder : Bool → List ℕ → Order
-versionOrder back line = byWhole (wholeOf (wordAt 1 line)) (λ (n : ℕ). ended 2 line (numberedBy back n)) (O.Unread 2)
+versionOrder back line = byWhole (wordWhole (wordAt 1 line)) (λ (n : ℕ). ended 2 line (numberedBy back n)) (O.Unread 2)
 
 -- `store BODY MU RADIUS CLOSED FAIR`
 abbrev pub fractionsOrder : ℕ → Float → Float → List ℕ → Order
 fractionsOrder body mu radius line =
-    byNumber (numberOf (wordAt 4 line))
+    byNumber (wordNumber (wordAt 4 line))
     (λ (closed : Float).
-    byNumber (numberOf (wordAt 5 line))
+    byNumber (wordNumber (wordAt 5 line))
     (λ (fair : Float).
     ended 6 line (O.Store (record { body = body; mu = mu; radius = radius; closed = closed; fair = fair })))
     (O.Unread 6))
@@ -50,13 +50,13 @@ fractionsOrder body mu radius line =
 
 abbrev pub constantsOrder : ℕ → List ℕ → Order
 constantsOrder body line =
-    byNumber (numberOf (wordAt 2 line))
+    byNumber (wordNumber (wordAt 2 line))
     (λ (mu : Float).
-    byNumber (numberOf (wordAt 3 line)) (λ (radius : Float). fractionsOrder body mu radius line) (O.Unread 4))
+    byNumber (wordNumber (wordAt 3 line)) (λ (radius : Float). fractionsOrder body mu radius line) (O.Unread 4))
     (O.Unread 3)
 
 abbrev pub storeOrder : List ℕ → Order
-storeOrder line = byWhole (wholeOf (wordAt 1 line)) (λ (body : ℕ). constantsOrder body line) (O.Unread 2)
+storeOrder line = byWhole (wordWhole (wordAt 1 line)) (λ (body : ℕ). constantsOrder body line) (O.Unread 2)
 
 -- by the line's first word
 unfoldable pub orderBy : List ℕ → List ℕ → Order

@@ -2,14 +2,19 @@
 -- every test ahead of it being met. Assumes nothing.
 use Prim.Native.Nat.{ℕ}
 use mathlib.Core.Path.{_≡_, refl, ap, _∙_}
-use mathlib.Core.Bool.{Bool, true, false, cond}
+use mathlib.Core.Bool.{Bool, true, false, cond, _&&_}
 use mathlib.Core.List.{List, [], _∷_, _++_}
 use Rattle.facts.proofs.Truth.{and-0, and-1, both}
 use Rattle.facts.proofs.Wholes.{zero-one}
 use Rattle.reason.specs.declared.Amiss.{Amiss}
-use Rattle.problem.specs.Held.{EndTest, testedBy, _▸_, allMet}
+use Rattle.problem.specs.Held.{EndTest, testedBy, _▸_}
 use Rattle.problem.specs.declared.Checked.{Checked}
 use Rattle.problem.specs.declared.Checked.the-variants.{Fine, Wrong}
+
+-- every test is met
+abbrev pub allMet : List EndTest → Bool
+allMet [] = true
+allMet (e ∷ es) = e .met && allMet es
 
 one-met : (c : Checked) (t : EndTest) → testedBy c t ≡ Fine → (c ≡ Fine) × (t .met ≡ true)
 unfolding testedBy

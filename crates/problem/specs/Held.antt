@@ -60,8 +60,3 @@ c ▸ (e ∷ es) = testedBy c e ▸ es
 
 abbrev pub checkedOf : Problem → Float → Bracket → Checked
 checkedOf problem asked b = Fine ▸ endTests problem asked b
-
--- every test is met
-abbrev pub allMet : List EndTest → Bool
-allMet [] = true
-allMet (e ∷ es) = e .met && allMet es

@@ -6,7 +6,7 @@ use lib.Ieee.{Float}
 use Rattle.text.specs.Text.{ascii, decimal, signedText}
 use Rattle.columns.specs.Rows.{labelledPieces, refusedPieces}
 use Rattle.columns.specs.Rows as Rows
-use Rattle.brackets.specs.Brackets.{endPieces, stoppedPieces}
+use Rattle.brackets.specs.Brackets.{bracketEndPieces, stoppedPieces}
 use Rattle.ends.specs.Ends.{amissPieces}
 use Rattle.limits.specs.Limits.{failedPieces}
 use Rattle.table.specs.declared.Entry.{Entry}
@@ -34,8 +34,8 @@ becausePieces s = ascii " because " ∷ (stopPieces s ++ (ascii "\n" ∷ []))
 -- `.. lo N JLO hi N JHI count K because STOP`
 unfoldable pub neighbourPieces : List ℕ → Bracket → Stop → List (List ℕ)
 neighbourPieces lo b s =
-    lo ∷ (endPieces (b .lo) (b .below)
-    ++ (ascii " hi" ∷ (endPieces (b .hi) (b .above) ++ (ascii " count " ∷ decimal (b .count) ∷ becausePieces s))))
+    lo ∷ (bracketEndPieces (b .lo) (b .below)
+    ++ (ascii " hi" ∷ (bracketEndPieces (b .hi) (b .above) ++ (ascii " count " ∷ decimal (b .count) ∷ becausePieces s))))
 
 -- ---- neighbours that both have their time
 

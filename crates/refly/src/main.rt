@@ -5,12 +5,9 @@ use account::Made;
 use account::Next;
 use flight::Mu;
 use libc::STDERR_FILENO;
-use libc::STDOUT_FILENO;
 use numerals::Number;
 use replay::Replay;
 use replay::Vehicle;
-ghost use Prim.Native.Nat.{_≤_};
-ghost use lib.ListN.{length};
 
 fn main() {
     let count = os::arg_count();
@@ -54,37 +51,23 @@ fn number(k: usize) -> Number {
 
 fn open(mu: Mu) {
     let mut path = io::buffer();
-    let n = os::arg(1, &mut path);
-    if os::errno() != 0 {
-        os::fail(b"refly: file name");
+    let file = console::open_named(&mut path);
+    if file.fd < 0 {
         return;
     }
-    if n == 0 {
-        io::write_all(STDERR_FILENO, b"refly: the file name is empty\n");
-        return;
-    }
-    let fd = os::open_read(&path[..n]);
-    if fd < 0 {
-        os::fail(&path[..n]);
-        return;
-    }
-    fly_from(mu, fd, &path[..n]);
-    libc::close(fd);
+    fly_from(mu, file.fd, &path[..file.length]);
+    libc::close(file.fd);
 }
 
 // One byte more than a session may have, so that a longer one is known as such.
 fn fly_from(mu: Mu, fd: i32, name: &[u8]) {
     let mut session = [0u8; 65537];
-    let n = io::read_full(fd, &mut session);
-    if n < 65537 {
-        let mut more = [0u8; 1];
-        if libc::read(fd, &mut more) != 0 {
-            os::fail(name);
-            return;
-        }
+    let input = console::read_whole(fd, name, &mut session);
+    if input.failed {
+        return;
     }
     let mut line = [0u8; 512];
-    fly(mu, &session[..n], &mut line);
+    fly(mu, &session[..input.length], &mut line);
 }
 
 fn fly(mu: Mu, s: &[u8], line: &mut [u8]) {
@@ -97,19 +80,13 @@ fn fly(mu: Mu, s: &[u8], line: &mut [u8]) {
         let Made::Line(t) = account::tell(mu, s, next, p, line) else {
             return;
         };
-        print(line, t.length);
+        if !console::print(&line[..t.length]) {
+            return;
+        }
         next = t.next;
         p = t.replay;
         if account::is_done(next) {
             return;
         }
-    }
-}
-
-fn print(out: &[u8], n: usize)
-    requires { ⌜ n ≤ length (now out) ⌝ }
-{
-    if !io::write_all(STDOUT_FILENO, &out[..n]) {
-        os::fail(b"standard output");
     }
 }

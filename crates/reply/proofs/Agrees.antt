@@ -24,7 +24,7 @@ use Rattle.why.proofs.Laws.{advance-number, transfer-number}
 use Rattle.forms.specs.declared.Version.{Version}
 use Rattle.forms.specs.declared.Version.the-variants.{Standard, Named}
 use Rattle.inquiry.specs.Inquiry.{foundBy, settledBy}
-use Rattle.reply.specs.Replies.{advancedBy, transferredBy}
+use Rattle.reply.specs.Replies.{advanceAsked, transferAsked}
 
 -- a grade alters no number
 advanced-same : (f : Fractions) (size : Float) (r : Advanced) → advancedNumber (gradedAdvanced f size r) ≡ advancedNumber r
@@ -43,8 +43,8 @@ transferred-same f size (Tr.NotFinished b) = refl
 transferred-same f size (Tr.Refused n) = refl
 
 pub advance-agrees : (used : List ℕ) (v : Version) (mu : Float) (s : State) (t : Float) (limit : ℕ) (g : Beginning)
-    → reasonNumber (settledBy used v (whyAdvance mu s t limit g)) ≡ advancedNumber (advancedBy used v mu s t limit g)
-unfolding settledBy foundBy advancedBy advanceBy reasonNumber advancedNumber
+    → reasonNumber (settledBy used v (whyAdvance mu s t limit g)) ≡ advancedNumber (advanceAsked used v mu s t limit g)
+unfolding settledBy foundBy advanceAsked advanceBy reasonNumber advancedNumber
 advance-agrees used Standard mu s t limit g = advance-number mu s t limit g
 advance-agrees used (Named k) mu s t limit g = go (lookUp used k)
   where
@@ -53,8 +53,8 @@ advance-agrees used (Named k) mu s t limit g = go (lookUp used k)
     go (Refused n) = refl
 
 pub transfer-agrees : (used : List ℕ) (v : Version) (mu : Float) (first second : Vector) (way : Way) (t : Float) (limit : ℕ) (g : Beginning)
-    → reasonNumber (settledBy used v (whyTransfer mu first second way t limit g)) ≡ transferredNumber (transferredBy used v mu first second way t limit g)
-unfolding settledBy foundBy transferredBy transferBy reasonNumber transferredNumber
+    → reasonNumber (settledBy used v (whyTransfer mu first second way t limit g)) ≡ transferredNumber (transferAsked used v mu first second way t limit g)
+unfolding settledBy foundBy transferAsked transferBy reasonNumber transferredNumber
 transfer-agrees used Standard mu first second way t limit g = transfer-number mu first second way t limit g
 transfer-agrees used (Named k) mu first second way t limit g = go (lookUp used k)
   where

@@ -14,7 +14,7 @@ use Rattle.forms.specs.declared.Solve.{Solve}
 use Rattle.forms.specs.declared.Solve.the-variants.{Kepler, Lambert, Theta, Apsides}
 use Rattle.inquiry.specs.Inquiry.{settledBy, inquiryOf}
 use Rattle.reasons.specs.Lines.{reasonPieces}
-use Rattle.reply.specs.Replies.{advancedBy, transferredBy, solvedOf, replyOf}
+use Rattle.reply.specs.Replies.{advanceAsked, transferAsked, solvedOf, replyOf}
 
 -- the same solve by this version; two solves have no grade
 unfoldable pub by : Version → Solve → Solve
@@ -25,7 +25,7 @@ by v (Apsides mu state) = Apsides mu state
 
 -- by a version that has 01's fractions a solve is answered as it is without one
 pub standard-version : (used : List ℕ) (k : ℕ) → G.Standard used k → (x : Solve) → solvedOf used (by (Named k) x) ≡ solvedOf used (by Standard x)
-unfolding by solvedOf advancedBy transferredBy
+unfolding by solvedOf advanceAsked transferAsked
 standard-version used k h (Kepler mu state time beginning limit version) = ap advancedPieces (standard-advance used k h mu state time limit beginning)
 standard-version used k h (Lambert mu first second time way beginning limit version) =
     ap transferredPieces (standard-transfer used k h mu first second way time limit beginning)
@@ -47,7 +47,7 @@ Unversioned (Q.Why x) = x ≡ by Standard x
 
 module _ (used other : List ℕ) where
   solved-alike : (x : Solve) → solvedOf used (by Standard x) ≡ solvedOf other (by Standard x)
-  unfolding by solvedOf advancedBy transferredBy
+  unfolding by solvedOf advanceAsked transferAsked
   solved-alike (Kepler mu state time beginning limit version) = refl
   solved-alike (Lambert mu first second time way beginning limit version) = refl
   solved-alike (Theta mu state sine cosine) = refl

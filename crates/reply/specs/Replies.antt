@@ -5,7 +5,7 @@ use Rattle.text.specs.Pieces.{concat}
 use Rattle.columns.specs.Rows.{unreadPieces}
 use Rattle.root.specs.Root.{rootAnswer}
 use Rattle.series.specs.Series.{cAnswer, sAnswer}
-use Rattle.iterator.specs.Single.{trialOf}
+use Rattle.iterator.specs.Single.{singleTrialOf}
 use lib.Ieee.{Float}
 use Rattle.vector.specs.declared.Vector.{Vector}
 use Rattle.vector.specs.declared.State.{State}
@@ -38,23 +38,23 @@ use Rattle.burn.specs.Burn.{burnOf}
 use Rattle.changes.specs.Changes.{burnPieces}
 
 -- the bytes that hold every line
-abbrev pub room : ℕ
-room = 512
+abbrev pub replyRoom : ℕ
+replyRoom = 512
 
 -- by 01's fractions, or by those of a version of the settings in their used part
-unfoldable pub advancedBy : List ℕ → Version → Float → State → Float → ℕ → Beginning → Advanced
-advancedBy used Standard mu state time limit beginning = advanceTo mu state time limit beginning
-advancedBy used (Named k) mu state time limit beginning = gradedAdvance used k mu state time limit beginning
+unfoldable pub advanceAsked : List ℕ → Version → Float → State → Float → ℕ → Beginning → Advanced
+advanceAsked used Standard mu state time limit beginning = advanceTo mu state time limit beginning
+advanceAsked used (Named k) mu state time limit beginning = gradedAdvance used k mu state time limit beginning
 
-unfoldable pub transferredBy : List ℕ → Version → Float → Vector → Vector → Way → Float → ℕ → Beginning → Transferred
-transferredBy used Standard mu first second way time limit beginning = transferVelocityTo mu first second way time limit beginning
-transferredBy used (Named k) mu first second way time limit beginning = gradedTransfer used k mu first second way time limit beginning
+unfoldable pub transferAsked : List ℕ → Version → Float → Vector → Vector → Way → Float → ℕ → Beginning → Transferred
+transferAsked used Standard mu first second way time limit beginning = transferVelocityTo mu first second way time limit beginning
+transferAsked used (Named k) mu first second way time limit beginning = gradedTransfer used k mu first second way time limit beginning
 
 -- the routine's own answer, as a line
 unfoldable pub solvedOf : List ℕ → Solve → List (List ℕ)
-solvedOf used (Kepler mu state time beginning limit version) = advancedPieces (advancedBy used version mu state time limit beginning)
+solvedOf used (Kepler mu state time beginning limit version) = advancedPieces (advanceAsked used version mu state time limit beginning)
 solvedOf used (Lambert mu first second time way beginning limit version) =
-    transferredPieces (transferredBy used version mu first second way time limit beginning)
+    transferredPieces (transferAsked used version mu first second way time limit beginning)
 solvedOf used (Theta mu state sine cosine) = timedPieces (thetaOf mu state sine cosine)
 solvedOf used (Apsides mu state) = apsidesPieces (apsidesOf mu state)
 
@@ -68,7 +68,7 @@ replyOf used Nothing = []
 replyOf used (Root x) = answerPieces (rootAnswer x)
 replyOf used (C xi) = answerPieces (cAnswer xi)
 replyOf used (S xi) = answerPieces (sAnswer xi)
-replyOf used (Trial asked lo hi below above k) = triedPieces (trialOf asked lo hi below above k)
+replyOf used (Trial asked lo hi below above k) = triedPieces (singleTrialOf asked lo hi below above k)
 replyOf used (Q.Look x) = lookedOf x
 replyOf used (Q.Solve x) = solvedOf used x
 replyOf used (Burn body radius mu active ta passive tp t2 t3) =

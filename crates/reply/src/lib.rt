@@ -2,7 +2,7 @@
 ghost use mathlib.Core.Path.{_≡_};
 ghost use Rattle.text.specs.Text.{InFront};
 ghost use Rattle.text.specs.Pieces.{Laid};
-ghost use Rattle.reply.specs.Replies.{room, advancedBy, transferredBy, solvedOf, lookedOf, replyOf, replyText};
+ghost use Rattle.reply.specs.Replies.{replyRoom, advanceAsked, transferAsked, solvedOf, lookedOf, replyOf, replyText};
 use burn::Centre;
 use forms::Look;
 use forms::Request;
@@ -26,7 +26,7 @@ fn advanced(
     limit: u64,
     beginning: Beginning,
 ) -> Advanced
-    ensures { λ r. ⌜ r ≡ advancedBy (now (used .entry)) version mu state time limit beginning ⌝ }
+    ensures { λ r. ⌜ r ≡ advanceAsked (now (used .entry)) version mu state time limit beginning ⌝ }
 {
     match version {
         Version::Standard => solve::advance_limited(mu, state, time, limit, beginning),
@@ -46,7 +46,7 @@ fn transferred(
     limit: u64,
     beginning: Beginning,
 ) -> Transferred
-    ensures { λ r. ⌜ r ≡ transferredBy (now (used .entry)) version mu first second way time limit beginning ⌝ }
+    ensures { λ r. ⌜ r ≡ transferAsked (now (used .entry)) version mu first second way time limit beginning ⌝ }
 {
     match version {
         Version::Standard => {
@@ -155,7 +155,7 @@ fn answered(buf: &mut [u8], used: &[u8], request: Request) -> usize
 // asked, or 15 for a buffer of under 512 bytes, which stays as it was. `used` is the used part of the settings, empty
 // where there are none.
 pub fn reply(used: &[u8], line: &[u8], buf: &mut [u8]) -> Made
-    ensures { λ r. ⌜ InFront room (replyText (now (used .entry)) (now (line .entry))) (now (buf .entry)) (now (buf .exit)) r ⌝ }
+    ensures { λ r. ⌜ InFront replyRoom (replyText (now (used .entry)) (now (line .entry))) (now (buf .entry)) (now (buf .exit)) r ⌝ }
 {
     if buf.len() < 512 {
         return Made::Refused(15);

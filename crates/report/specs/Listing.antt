@@ -9,8 +9,8 @@ use Rattle.session.specs.declared.Reading.{Reading}
 use Rattle.session.specs.declared.Reading.the-variants.{Record, Offset, End, Refused}
 use Rattle.session.specs.declared.Place.{Place}
 use Rattle.session.specs.Read.{start, readAt}
-use Rattle.lines.specs.declared.line.Made.{Made}
-use Rattle.lines.specs.declared.line.Made.the-variants as M
+use Rattle.text.specs.declared.Made.{Made}
+use Rattle.text.specs.declared.Made.the-variants as M
 use Rattle.lines.specs.Lines.{headingText, recordText, refusedText}
 use Rattle.report.specs.declared.Next.{Next}
 use Rattle.report.specs.declared.Next.the-variants.{Heading, At, Done}
@@ -90,6 +90,6 @@ isDone Heading = false
 isDone (At p) = false
 isDone Done = true
 
-abbrev pub sizeOf : Made → ℕ
-sizeOf (M.Line n) = n
-sizeOf (M.Refused x) = 0
+abbrev pub madeLength : Made → ℕ
+madeLength (M.Line n) = n
+madeLength (M.Refused x) = 0

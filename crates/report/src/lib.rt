@@ -2,10 +2,10 @@
 ghost use Prim.Native.Nat.{_≤_};
 ghost use mathlib.Core.Path.{_≡_};
 ghost use lib.ListN.{length};
-ghost use Rattle.report.specs.Listing.{isDone, stepAt, stepOf, Stepped, Fills, FillOf, sizeOf};
-use lines::Made;
+ghost use Rattle.report.specs.Listing.{isDone, stepAt, stepOf, Stepped, Fills, FillOf, madeLength};
 use session::Place;
 use session::Reading;
+use text::Made;
 
 // What the next line is: the heading, that of what stands at a place, or none.
 pub enum Next {
@@ -122,7 +122,7 @@ fn step_at(s: &[u8], place: Place, line: &mut [u8]) -> Filled
 }
 
 fn length_of(m: Made) -> usize
-    ensures { λ r. ⌜ r ≡ sizeOf m ⌝ }
+    ensures { λ r. ⌜ r ≡ madeLength m ⌝ }
 {
     match m {
         Made::Line(n) => n,

@@ -16,12 +16,12 @@ use lib.Dec.{T}
 use borrow.Author.Tests.{lt-ltb, le-leb, eqb-true, ltb-true, ne-eqb, eq-eqb, ltb-false}
 use Rattle.facts.proofs.Truth.{each, both}
 use Rattle.text.specs.Text.{digitText, digits, decimal, signedText}
-use Rattle.figures.specs.Figures.{places, bitsOf}
+use Rattle.figures.specs.Figures.{places, bitsText}
 use Rattle.figures.proofs.Places.{places-length}
 use Rattle.figures.proofs.Sizes.{bits-else}
 use Rattle.words.specs.Words.{blank}
 use Rattle.numerals.specs.Numbers as Num
-use Rattle.numerals.specs.Numbers.{digitOf, areDigits, valueOf, readOf, wholeOf, signedOf, numberOf, patternOf, ofPattern}
+use Rattle.numerals.specs.Numbers.{digitOf, areDigits, valueOf, wordDigits, wordWhole, wordSigned, wordNumber, patternOf, ofPattern}
 use Rattle.numerals.specs.declared.digits.Whole.the-variants as W
 use Rattle.numerals.specs.declared.digits.Signed.the-variants as S
 use Rattle.numerals.specs.declared.reals.Number.the-variants as N
@@ -132,8 +132,8 @@ unfolding areDigits digitOf
 first-digit [] g = refl
 first-digit (b ∷ s) g = no-minus b (eqb b 45) refl (each (ltb (digitOf b) 10) (areDigits 10 s) g .0)
 
-read-says : (base n : ℕ) (s : List ℕ) → Says base n s → n < 2 ^ 64 → readOf base 0 s ≡ W.Read n
-unfolding readOf
+read-says : (base n : ℕ) (s : List ℕ) → Says base n s → n < 2 ^ 64 → wordDigits base 0 s ≡ W.Read n
+unfolding wordDigits
 read-says base n s h l =
     let v : ltb (valueOf base 0 s) (2 ^ 64) ≡ true = rw (h .value) (lt-ltb n (2 ^ 64) l) in
     rw (both (areDigits base s) (ltb (valueOf base 0 s) (2 ^ 64)) (h .all) v) (ap W.Read (h .value))
@@ -165,20 +165,20 @@ module _ (n : ℕ) (h : n < 2 ^ 64) where
   pub decimal-clean : clean (decimal n) ≡ true
   decimal-clean = digits-clean 10 (decimal n) (omega arith) (said .all)
 
-  decimal-read : Num.decimal (decimal n) ≡ W.Read n
-  unfolding Num.decimal
+  decimal-read : Num.wordDecimal (decimal n) ≡ W.Read n
+  unfolding Num.wordDecimal
   decimal-read = rw (some-length (decimal n) (some-decimal n)) (read-says 10 n (decimal n) said h)
 
-  pub whole-back : wholeOf (decimal n) ≡ W.Read n
-  unfolding wholeOf
+  pub whole-back : wordWhole (decimal n) ≡ W.Read n
+  unfolding wordWhole
   whole-back = rw (first-digit (decimal n) (said .all)) decimal-read
 
-  signed-by : signedOf (decimal n) ≡ Num.plain (W.Read n)
-  unfolding signedOf
+  signed-by : wordSigned (decimal n) ≡ Num.plain (W.Read n)
+  unfolding wordSigned
   signed-by = rw (first-digit (decimal n) (said .all)) (ap Num.plain decimal-read)
 
-  signed-minus : signedOf (45 ∷ decimal n) ≡ Num.minus (W.Read n)
-  unfolding signedOf
+  signed-minus : wordSigned (45 ∷ decimal n) ≡ Num.minus (W.Read n)
+  unfolding wordSigned
   signed-minus = ap Num.minus decimal-read
 
 pub signed-some : (z : ℤ) → some (signedText z) ≡ true
@@ -189,7 +189,7 @@ pub signed-clean : (z : ℤ) → mag z < 2 ^ 63 → clean (signedText z) ≡ tru
 signed-clean (pos n) h = decimal-clean n (omega arith)
 signed-clean (negsuc n) h = decimal-clean (n + 1) (omega arith)
 
-pub signed-back : (z : ℤ) → mag z < 2 ^ 63 → signedOf (signedText z) ≡ S.Read z
+pub signed-back : (z : ℤ) → mag z < 2 ^ 63 → wordSigned (signedText z) ≡ S.Read z
 signed-back (pos n) h = signed-by n (omega arith) ∙ rw (lt-ltb n (2 ^ 63) h) refl
 signed-back (negsuc n) h =
     let e : n + 1 ≡ suc n = omega arith in
@@ -204,16 +204,16 @@ module _ (x : Float) (f : T (fits binary64 x)) (d : T (not (isNan x))) where
   bits-says : Says 16 (toBits binary64 x) (places 16 16 (toBits binary64 x))
   bits-says = places-says 16 (toBits binary64 x) below
 
-  pub bits-some : some (bitsOf x) ≡ true
+  pub bits-some : some (bitsText x) ≡ true
   bits-some = ap some (bits-else x d)
 
-  pub bits-clean : clean (bitsOf x) ≡ true
+  pub bits-clean : clean (bitsText x) ≡ true
   bits-clean = ap clean (bits-else x d) ∙ digits-clean 16 (places 16 16 (toBits binary64 x)) (omega arith) (bits-says .all)
 
-  pub bits-back : numberOf (bitsOf x) ≡ N.Read x
-  unfolding numberOf patternOf
+  pub bits-back : wordNumber (bitsText x) ≡ N.Read x
+  unfolding wordNumber patternOf
   bits-back =
       let n = toBits binary64 x in
-      ap numberOf (bits-else x d)
-      ∙ ap (λ (b : Bool). cond b (ofPattern (readOf 16 0 (places 16 16 n))) N.Unread) (eq-eqb _ _ (places-length 16 16 n))
+      ap wordNumber (bits-else x d)
+      ∙ ap (λ (b : Bool). cond b (ofPattern (wordDigits 16 0 (places 16 16 n))) N.Unread) (eq-eqb _ _ (places-length 16 16 n))
       ∙ ap ofPattern (read-says 16 n (places 16 16 n) bits-says below) ∙ ap N.Read (ofBits-toBits binary64 x f)

@@ -18,11 +18,11 @@ use Rattle.real.proofs.Patterns.{finite-not-nan}
 use Rattle.real.specs.F64.{finite}
 use Rattle.text.specs.Text.{ascii, decimal, signedText}
 use Rattle.text.specs.Pieces.{concat}
-use Rattle.figures.specs.Figures.{bitsOf}
+use Rattle.figures.specs.Figures.{bitsText}
 use Rattle.columns.specs.declared.Style.the-variants.{Bits}
 use Rattle.columns.specs.Rows.{figureText, rowPieces}
 use Rattle.words.specs.Words.{wordAt, startsWith, isWord, isEnd}
-use Rattle.numerals.specs.Numbers.{numberOf, wholeOf, signedOf}
+use Rattle.numerals.specs.Numbers.{wordNumber, wordWhole, wordSigned}
 use Rattle.numerals.specs.declared.reals.Number.the-variants as N
 use Rattle.numerals.specs.declared.digits.Whole.the-variants as W
 use Rattle.numerals.specs.declared.digits.Signed.the-variants as S
@@ -40,14 +40,14 @@ use mir.Val.{SFits}
 use Rattle.session.specs.declared.record.Record.{Record}
 use Rattle.session.specs.declared.record.Record.the-variants as R
 use Rattle.entry.specs.declared.line.Entry.the-variants.{Offset, State, Burn, Mark}
-use Rattle.entry.specs.Entries.{ended, offsetOf, stateOf, burnOf, markOf, entryOf, namedOf}
+use Rattle.entry.specs.Entries.{ended, offsetEntry, stateEntry, burnEntry, markEntry, entryOf, namedOf}
 use Rattle.retold.proofs.Joined.{behind, line, Words, first, word-at}
 use Rattle.retold.proofs.Read.{whole-back, decimal-clean, some-decimal, signed-some, signed-clean, signed-back, bits-some, bits-clean, bits-back}
 
 -- the words of numbers as bits
 abbrev pub patterns : List Float → List (List ℕ)
 patterns [] = []
-patterns (x ∷ xs) = bitsOf x ∷ patterns xs
+patterns (x ∷ xs) = bitsText x ∷ patterns xs
 
 abbrev pub Numbers : List Float → Type 0
 Numbers [] = Unit {0}
@@ -57,7 +57,7 @@ Numbers (x ∷ xs) = T (fits binary64 x) × T (not (isNan x)) × Numbers xs
 pub row-behind : (xs : List Float) → concat (rowPieces Bits xs) ≡ behind (patterns xs)
 unfolding concat rowPieces figureText
 row-behind [] = refl
-row-behind (x ∷ xs) = ap (λ (l : List ℕ). 32 ∷ (bitsOf x ++ l)) (row-behind xs)
+row-behind (x ∷ xs) = ap (λ (l : List ℕ). 32 ∷ (bitsText x ++ l)) (row-behind xs)
 
 pub patterns-words : (xs : List Float) → Numbers xs → Words (patterns xs)
 patterns-words [] h = h
@@ -77,42 +77,42 @@ entry-named : (l name : List ℕ) → startsWith l (ascii "#") ≡ false → len
 unfolding entryOf
 entry-named l name s h w e = rw (s, le-ltb 1000 (length l) h, w, e) refl
 
-named-offset : (l : List ℕ) → namedOf (ascii "offset") l ≡ offsetOf l
+named-offset : (l : List ℕ) → namedOf (ascii "offset") l ≡ offsetEntry l
 unfolding isWord startsWith
 named-offset l = refl
 
-named-state : (l : List ℕ) → namedOf (ascii "state") l ≡ stateOf l
+named-state : (l : List ℕ) → namedOf (ascii "state") l ≡ stateEntry l
 unfolding isWord startsWith
 named-state l = refl
 
-named-burn : (l : List ℕ) → namedOf (ascii "burn") l ≡ burnOf l
+named-burn : (l : List ℕ) → namedOf (ascii "burn") l ≡ burnEntry l
 unfolding isWord startsWith
 named-burn l = refl
 
-named-mark : (l : List ℕ) → namedOf (ascii "mark") l ≡ markOf l
+named-mark : (l : List ℕ) → namedOf (ascii "mark") l ≡ markEntry l
 unfolding isWord startsWith
 named-mark l = refl
 
 -- ---- what the words of a line say
 
-module _ (l : List ℕ) {t : ℤ} (a : signedOf (wordAt 1 l) ≡ S.Read t) where
-  offset-by : isEnd 2 l ≡ true → offsetOf l ≡ Offset t
+module _ (l : List ℕ) {t : ℤ} (a : wordSigned (wordAt 1 l) ≡ S.Read t) where
+  offset-by : isEnd 2 l ≡ true → offsetEntry l ≡ Offset t
   unfolding ended
   offset-by e = rw (a, e) refl
 
-  module _ {v : ℕ} (b : wholeOf (wordAt 2 l) ≡ W.Read v) where
-    mark-by : {x y : Float} → numberOf (wordAt 3 l) ≡ N.Read x → numberOf (wordAt 4 l) ≡ N.Read y → isEnd 5 l ≡ true → markOf l ≡ Mark t v x y
+  module _ {v : ℕ} (b : wordWhole (wordAt 2 l) ≡ W.Read v) where
+    mark-by : {x y : Float} → wordNumber (wordAt 3 l) ≡ N.Read x → wordNumber (wordAt 4 l) ≡ N.Read y → isEnd 5 l ≡ true → markEntry l ≡ Mark t v x y
     unfolding ended
     mark-by p q e = rw (a, b, p, q, e) refl
 
-    burn-by : {x y z : Float} → numberOf (wordAt 3 l) ≡ N.Read x → numberOf (wordAt 4 l) ≡ N.Read y → numberOf (wordAt 5 l) ≡ N.Read z → isEnd 6 l ≡ true
-        → burnOf l ≡ Burn t v (record { x = x; y = y; z = z })
+    burn-by : {x y z : Float} → wordNumber (wordAt 3 l) ≡ N.Read x → wordNumber (wordAt 4 l) ≡ N.Read y → wordNumber (wordAt 5 l) ≡ N.Read z → isEnd 6 l ≡ true
+        → burnEntry l ≡ Burn t v (record { x = x; y = y; z = z })
     unfolding ended
     burn-by p q r e = rw (a, b, p, q, r, e) refl
 
-    state-by : {n : ℕ} {x y z u v′ w : Float} → wholeOf (wordAt 3 l) ≡ W.Read n → numberOf (wordAt 4 l) ≡ N.Read x → numberOf (wordAt 5 l) ≡ N.Read y
-        → numberOf (wordAt 6 l) ≡ N.Read z → numberOf (wordAt 7 l) ≡ N.Read u → numberOf (wordAt 8 l) ≡ N.Read v′ → numberOf (wordAt 9 l) ≡ N.Read w → isEnd 10 l ≡ true
-        → stateOf l ≡ State t v n (record { rx = x; ry = y; rz = z; vx = u; vy = v′; vz = w })
+    state-by : {n : ℕ} {x y z u v′ w : Float} → wordWhole (wordAt 3 l) ≡ W.Read n → wordNumber (wordAt 4 l) ≡ N.Read x → wordNumber (wordAt 5 l) ≡ N.Read y
+        → wordNumber (wordAt 6 l) ≡ N.Read z → wordNumber (wordAt 7 l) ≡ N.Read u → wordNumber (wordAt 8 l) ≡ N.Read v′ → wordNumber (wordAt 9 l) ≡ N.Read w → isEnd 10 l ≡ true
+        → stateEntry l ≡ State t v n (record { rx = x; ry = y; rz = z; vx = u; vy = v′; vz = w })
     unfolding ended
     state-by d p q r i j k e = rw (a, b, d, p, q, r, i, j, k, e) refl
 
@@ -121,14 +121,14 @@ module _ (l : List ℕ) {t : ℤ} (a : signedOf (wordAt 1 l) ≡ S.Read t) where
 no-more : (k : ℕ) (ws : List (List ℕ)) → Words ws → first (drop k ws) ≡ [] → isEnd k (line ws) ≡ true
 no-more k ws h e = ap (λ (w : List ℕ). eqb (length w) 0) (word-at k ws h ∙ e)
 
-signed-word : (k : ℕ) (ws : List (List ℕ)) → Words ws → (z : ℤ) → mag z < 2 ^ 63 → first (drop k ws) ≡ signedText z → signedOf (wordAt k (line ws)) ≡ S.Read z
-signed-word k ws h z m e = ap signedOf (word-at k ws h ∙ e) ∙ signed-back z m
+signed-word : (k : ℕ) (ws : List (List ℕ)) → Words ws → (z : ℤ) → mag z < 2 ^ 63 → first (drop k ws) ≡ signedText z → wordSigned (wordAt k (line ws)) ≡ S.Read z
+signed-word k ws h z m e = ap wordSigned (word-at k ws h ∙ e) ∙ signed-back z m
 
-whole-word : (k : ℕ) (ws : List (List ℕ)) → Words ws → (n : ℕ) → n < 2 ^ 64 → first (drop k ws) ≡ decimal n → wholeOf (wordAt k (line ws)) ≡ W.Read n
-whole-word k ws h n m e = ap wholeOf (word-at k ws h ∙ e) ∙ whole-back n m
+whole-word : (k : ℕ) (ws : List (List ℕ)) → Words ws → (n : ℕ) → n < 2 ^ 64 → first (drop k ws) ≡ decimal n → wordWhole (wordAt k (line ws)) ≡ W.Read n
+whole-word k ws h n m e = ap wordWhole (word-at k ws h ∙ e) ∙ whole-back n m
 
-number-word : (k : ℕ) (ws : List (List ℕ)) → Words ws → (x : Float) → T (fits binary64 x) → T (not (isNan x)) → first (drop k ws) ≡ bitsOf x → numberOf (wordAt k (line ws)) ≡ N.Read x
-number-word k ws h x f d e = ap numberOf (word-at k ws h ∙ e) ∙ bits-back x f d
+number-word : (k : ℕ) (ws : List (List ℕ)) → Words ws → (x : Float) → T (fits binary64 x) → T (not (isNan x)) → first (drop k ws) ≡ bitsText x → wordNumber (wordAt k (line ws)) ≡ N.Read x
+number-word k ws h x f d e = ap wordNumber (word-at k ws h ∙ e) ∙ bits-back x f d
 
 -- ---- each line
 

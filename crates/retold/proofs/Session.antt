@@ -16,7 +16,7 @@ use Rattle.session.specs.declared.Place.{Place}
 use Rattle.session.specs.declared.Reading.{Reading}
 use Rattle.session.specs.declared.Reading.the-variants as A
 use Rattle.session.specs.Limits.{offsetAllowed}
-use Rattle.session.specs.Kinds.{lengthOf}
+use Rattle.session.specs.Kinds.{recordLength}
 use Rattle.session.specs.Layout.{kindIn, bytesOf}
 use Rattle.session.specs.Offset.{decodeAt, offsetBytes}
 use Rattle.session.specs.Decode.{allowedIn}
@@ -30,7 +30,7 @@ use Rattle.session.proofs.Progress.{found}
 use Rattle.text.specs.Text.{Stands}
 use Rattle.text.proofs.Stand.{before-place, same-size}
 use Rattle.writer.specs.declared.record.Written.the-variants as W
-use Rattle.writer.specs.Write.{hasRoom, behind, writtenOf, bufferOf, offsetMay, offsetBuffer}
+use Rattle.writer.specs.Write.{hasRoom, placeBehind, writtenOf, bufferOf, offsetMay, offsetBuffer}
 use Rattle.writer.proofs.Cases.{stood}
 use Rattle.writer.proofs.Laws.{offset-length}
 use Rattle.writer.proofs.OffsetWritten.{offset-found}
@@ -44,9 +44,9 @@ use Rattle.entry.specs.declared.line.Entry.the-variants as E
 use Rattle.entry.specs.Entries.{entryOf}
 use Rattle.enter.specs.declared.Entered.the-variants as N
 use Rattle.enter.specs.Enter.{asEntered, enteredOf, sessionOf}
-use Rattle.book.specs.declared.Turn.{Turn}
-use Rattle.book.specs.declared.Turn.the-variants.{Going}
-use Rattle.book.specs.Book.{oneMore, asTurn, turnOf, turnsOf, writtenBy}
+use Rattle.book.specs.declared.Progress.{Progress}
+use Rattle.book.specs.declared.Progress.the-variants.{Going}
+use Rattle.book.specs.Book.{oneMore, asProgress, progressOf, progressOver, writtenBy}
 use Rattle.book.proofs.Laws.{turns-none, turns-more}
 use Rattle.retold.specs.Said.{lineText, offsetText, saidOf}
 use Rattle.retold.proofs.Retold.{retold, offset-retold}
@@ -54,13 +54,13 @@ use Rattle.retold.proofs.TwoLines.{comment-skipped}
 
 -- a line that was entered leads on
 step : (d : List ℕ) (at k : ℕ) (l : List ℕ) (ls : List (List ℕ)) (e : Entry) (a : ℕ) (f : List ℕ) → entryOf l ≡ e → enteredOf d at e ≡ N.Next a → sessionOf d at e ≡ f
-    → (turnsOf (l ∷ ls) d (Going at k) ≡ turnsOf ls f (Going a (oneMore k))) × (writtenBy (l ∷ ls) d (Going at k) ≡ writtenBy ls f (Going a (oneMore k)))
+    → (progressOver (l ∷ ls) d (Going at k) ≡ progressOver ls f (Going a (oneMore k))) × (writtenBy (l ∷ ls) d (Going at k) ≡ writtenBy ls f (Going a (oneMore k)))
 step d at k l ls e a f h g i =
     let t = turns-more d at k l ls in
     let x : sessionOf d at (entryOf l) ≡ f = ap (sessionOf d at) h ∙ i in
-    let y : turnOf d at k l ≡ Going a (oneMore k) = ap (asTurn (oneMore k)) (ap (enteredOf d at) h ∙ g) in (
-      t .0 ∙ ap (λ (z : List ℕ). turnsOf ls z (turnOf d at k l)) x ∙ ap (turnsOf ls f) y,
-      t .1 ∙ ap (λ (z : List ℕ). writtenBy ls z (turnOf d at k l)) x ∙ ap (writtenBy ls f) y,
+    let y : progressOf d at k l ≡ Going a (oneMore k) = ap (asProgress (oneMore k)) (ap (enteredOf d at) h ∙ g) in (
+      t .0 ∙ ap (λ (z : List ℕ). progressOver ls z (progressOf d at k l)) x ∙ ap (progressOver ls f) y,
+      t .1 ∙ ap (λ (z : List ℕ). writtenBy ls z (progressOf d at k l)) x ∙ ap (writtenBy ls f) y,
     )
 
 -- a record as a line says it is written as the record
@@ -83,14 +83,14 @@ record-entered s d p q r b e w h =
     let l = drop at s in
     let z = whole-fits l r n (f .whole) in
     let y = write-back l (bytes-drop at s b) r n (f .whole) in
-    let m : n ≡ lengthOf (kindIn r) = sym (length-take-le n l (z .1)) ∙ ap length (sym y) ∙ bytes-of-length r in
-    let k : behind at r ≡ q .at = ap (λ (x : ℕ). at + x) (sym m) ∙ sym (f .next) in
-    let g : behind at r ≤ length s = omega (arith, k, f .next, z .0, z .1, length-drop at s) in
-    let i : hasRoom at (lengthOf (kindIn r)) (length d) ≡ true =
-    rw (le-leb (behind at r) (length d) (omega (arith, g, w)), le-leb (behind at r) 65536 (omega (arith, g, f .short))) refl in
+    let m : n ≡ recordLength (kindIn r) = sym (length-take-le n l (z .1)) ∙ ap length (sym y) ∙ bytes-of-length r in
+    let k : placeBehind at r ≡ q .at = ap (λ (x : ℕ). at + x) (sym m) ∙ sym (f .next) in
+    let g : placeBehind at r ≤ length s = omega (arith, k, f .next, z .0, z .1, length-drop at s) in
+    let i : hasRoom at (recordLength (kindIn r)) (length d) ≡ true =
+    rw (le-leb (placeBehind at r) (length d) (omega (arith, g, w)), le-leb (placeBehind at r) 65536 (omega (arith, g, f .short))) refl in
     let a = decoded-allowed l (bytes-drop at s b) r n (f .whole) .0 in
-    let t = stood (allowedIn r) d at (lengthOf (kindIn r)) (bytesOf r) a i in
-    let u : Stands d at (bytesOf r) (bufferOf d at r) (behind at r) =
+    let t = stood (allowedIn r) d at (recordLength (kindIn r)) (bytesOf r) a i in
+    let u : Stands d at (bytesOf r) (bufferOf d at r) (placeBehind at r) =
     record { next = ap (λ (x : ℕ). at + x) (sym (bytes-of-length r)); within = omega (arith, g, w); whole = sym (t .1) } in
     let c = as-record d at r in
     record {
@@ -155,16 +155,16 @@ pub data Shown (s : List ℕ) : Place → List (List ℕ) → Type 0 where
   offset-at : {p q : Place} {c : List ℕ} {ls : List (List ℕ)} → readAt s p ≡ A.Offset q → Shown s q ls → Shown s p ((35 ∷ c) ∷ offsetText (q .offset) ∷ ls)
 
 -- no line was refused, the records end with the session, and up to there the buffer is the session
-pub record Same (s : List ℕ) (t : Turn) (e : List ℕ) : Type 0 where
+pub record Same (s : List ℕ) (t : Progress) (e : List ℕ) : Type 0 where
   pub count : ℕ
   pub turn : t ≡ Going (length s) count
   pub bytes : take (length s) e ≡ s
 
-same-as : {s : List ℕ} {t u : Turn} {e f : List ℕ} → t ≡ u → e ≡ f → Same s u f → Same s t e
+same-as : {s : List ℕ} {t u : Progress} {e f : List ℕ} → t ≡ u → e ≡ f → Same s u f → Same s t e
 same-as {s} p q x = record { count = x .count; turn = p ∙ x .turn; bytes = ap (take (length s)) q ∙ x .bytes }
 
 pub again : {s : List ℕ} {p : Place} {ls : List (List ℕ)} → Shown s p ls → Bytes s → (d : List ℕ) (k : ℕ) → length s ≤ length d → take (p .at) d ≡ take (p .at) s
-    → Same s (turnsOf ls d (Going (p .at) k)) (writtenBy ls d (Going (p .at) k))
+    → Same s (progressOver ls d (Going (p .at) k)) (writtenBy ls d (Going (p .at) k))
 again {s} (end {p} e) b d k w h =
     let a = at-end s p e in
     let t = turns-none d (Going (p .at) k) in

@@ -20,7 +20,7 @@ use Rattle.session.specs.declared.Reading.the-variants as A
 use Rattle.session.specs.Layout.{kindIn, vehicleIn, timeIn, numbersIn}
 use Rattle.lines.specs.Days.{localOf, dayOf, csOf}
 use Rattle.lines.proofs.Sizes.{name-short}
-use Rattle.script.specs.Script.{room, stampPieces, whoPieces, headPieces, bodyPieces, frontPieces, backPieces, middle, recordPieces, offsetPieces, refusedPieces, piecesOf}
+use Rattle.script.specs.Script.{scriptRoom, stampPieces, whoPieces, headPieces, bodyPieces, frontPieces, backPieces, middle, recordPieces, offsetPieces, refusedPieces, piecesOf}
 
 stamp-most : (t : ℤ) → size (stampPieces t) ≤ 53
 unfolding concat stampPieces
@@ -53,13 +53,13 @@ back-most : (xs : List Float) → size (backPieces xs) ≤ 18 * length xs + 1
 unfolding concat backPieces
 back-most xs = omega (arith, end-short xs)
 
-record-most : (o : ℤ) (r : Record) → size (recordPieces o r) ≤ room
+record-most : (o : ℤ) (r : Record) → size (recordPieces o r) ≤ scriptRoom
 record-most o r =
     let xs = numbersIn r in
     simp (concat-append, length-append)
     (omega (arith, front-most (timeIn r) o (kindIn r) (vehicleIn r) xs, middle-most r, back-most xs, numbers-few r))
 
-pub all-fit-room : (r : Reading) → size (piecesOf r) ≤ room
+pub all-fit-room : (r : Reading) → size (piecesOf r) ≤ scriptRoom
 unfolding concat offsetPieces refusedPieces
 all-fit-room (A.Record r p) = record-most (p .offset) r
 all-fit-room (A.Offset p) = simp length-append (omega (arith, signed-short (p .offset)))

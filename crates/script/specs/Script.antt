@@ -25,8 +25,8 @@ use Rattle.script.specs.declared.Shown.{Shown}
 use Rattle.script.specs.declared.Shown.the-variants.{Lines, Last, Refused}
 
 -- the bytes that hold the lines of every record
-abbrev pub room : ℕ
-room = 512
+abbrev pub scriptRoom : ℕ
+scriptRoom = 512
 
 -- `# day DAY cs CS: `
 unfoldable pub stampPieces : ℤ → List (List ℕ)
@@ -91,5 +91,5 @@ textAt s p = concat (piecesOf (readAt s p))
 -- made in the buffer d, which makes e, and r is answered: they stand at the front and the bytes past them as they were;
 -- if d has less than the room it stays as it was, and the answer is 15
 pub record ShownAt (s : List ℕ) (p : Place) (d e : List ℕ) (r : Shown) : Type 0 where
-  pub answer : r ≡ cond (ltb (length d) room) (Refused 15) (shownAs (readAt s p) (length (textAt s p)))
-  pub buffer : e ≡ cond (ltb (length d) room) d (textAt s p ++ drop (length (textAt s p)) d)
+  pub answer : r ≡ cond (ltb (length d) scriptRoom) (Refused 15) (shownAs (readAt s p) (length (textAt s p)))
+  pub buffer : e ≡ cond (ltb (length d) scriptRoom) d (textAt s p ++ drop (length (textAt s p)) d)

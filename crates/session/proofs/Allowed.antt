@@ -21,7 +21,7 @@ use Rattle.session.specs.declared.record.Decoded.the-variants.{Whole}
 use Rattle.field.specs.Bytes.{field}
 use Rattle.session.specs.Kinds.{countOf, topOf}
 use Rattle.session.specs.Limits.{timeAllowed}
-use Rattle.session.specs.Layout.{vehicleAt, byteAt, timeAt, wordAt, numbersFrom, allFinite, recordAt}
+use Rattle.session.specs.Layout.{vehicleAt, byteAt, timeAt, bitsAt, numbersFrom, allFinite, recordAt}
 use Rattle.session.specs.Decode.{allowedAt, allowedIn, headOf, decoded, decodeOf, AllFit, Held}
 use Rattle.session.proofs.Table.{length-law}
 use Rattle.session.proofs.Heads.{Holds, good-head}
@@ -46,7 +46,7 @@ module _ (s : List ℕ) where
   all-fit : (i n : ℕ) → AllFit (numbersFrom i n s)
   unfolding numbersFrom
   all-fit i zero = tt
-  all-fit i (suc n) = (ofBits-fits binary64 (wordAt s i), all-fit (i + 1) n)
+  all-fit i (suc n) = (ofBits-fits binary64 (bitsAt s i), all-fit (i + 1) n)
 
   own-held : (k : Kind) → SFits w64 (timeAt s) → Held (recordAt k s)
   unfolding numbersFrom

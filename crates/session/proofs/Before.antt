@@ -21,7 +21,7 @@ use Rattle.session.specs.declared.Reading.the-variants.{End, Refused}
 use Rattle.session.specs.declared.Place.{Place}
 use Rattle.field.specs.Bytes.{field}
 use Rattle.session.specs.Limits.{timeAllowed}
-use Rattle.session.specs.Kinds.{kindOf, lengthOf, countOf, topOf}
+use Rattle.session.specs.Kinds.{kindOf, recordLength, countOf, topOf}
 use Rattle.session.specs.Layout.{vehicleAt, byteAt, timeAt, numbersFrom, allFinite, recordAt, timeIn}
 use Rattle.session.specs.Decode.{judged, decoded, decodeOf}
 use Rattle.session.specs.Offset.{isOffset, offsetOf}
@@ -34,8 +34,8 @@ allowed-01 k s = leb (vehicleAt s) 1 && leb (byteAt s) (topOf k) && allFinite (n
 abbrev pub judged-01 : Found → List ℕ → Head
 judged-01 Unknown s = Bad 13
 judged-01 (Known k) s =
-    cond (not (eqb (field 0 2 s) (lengthOf k))) (Bad 12)
-    (cond (ltb (length s) (lengthOf k)) (Bad 11) (cond (allowed-01 k s) (Good k) (Bad 14)))
+    cond (not (eqb (field 0 2 s) (recordLength k))) (Bad 12)
+    (cond (ltb (length s) (recordLength k)) (Bad 11) (cond (allowed-01 k s) (Good k) (Bad 14)))
 
 abbrev pub head-01 : List ℕ → Head
 head-01 s = cond (ltb (length s) 4) (Bad 11) (cond (ltb (field 0 2 s) 4) (Bad 12) (judged-01 (kindOf (field 2 2 s)) s))
@@ -62,7 +62,7 @@ chain false false true false false k h = refl
 same-judged : (f : Found) (s : List ℕ) → ((k : Kind) → judged-01 f s ≡ Good k → timeAllowed (timeAt s) ≡ true) → judged f s ≡ judged-01 f s
 same-judged Unknown s h = refl
 same-judged (Known k) s h =
-    chain (not (eqb (field 0 2 s) (lengthOf k))) (ltb (length s) (lengthOf k)) (leb (vehicleAt s) 1 && leb (byteAt s) (topOf k)) (timeAllowed (timeAt s)) (allFinite (numbersFrom 0 (countOf k) s)) k (h k)
+    chain (not (eqb (field 0 2 s) (recordLength k))) (ltb (length s) (recordLength k)) (leb (vehicleAt s) 1 && leb (byteAt s) (topOf k)) (timeAllowed (timeAt s)) (allFinite (numbersFrom 0 (countOf k) s)) k (h k)
 
 same-front : (a b : Bool) (f : Found) (s : List ℕ) → ((k : Kind) → cond a (Bad 11) (cond b (Bad 12) (judged-01 f s)) ≡ Good k → timeAllowed (timeAt s) ≡ true)
     → cond a (Bad 11) (cond b (Bad 12) (judged f s)) ≡ cond a (Bad 11) (cond b (Bad 12) (judged-01 f s))
@@ -83,7 +83,7 @@ same-decoded : (s : List ℕ) → Timely s → decodeOf s ≡ decode-01 s
 same-decoded s h =
     ap (λ (x : Head). decoded x s)
     (same-front (ltb (length s) 4) (ltb (field 0 2 s) 4) (kindOf (field 2 2 s)) s
-    (λ (k : Kind) (e : head-01 s ≡ Good k). sym (ap timeAllowed (time-own k s)) ∙ h (recordAt k s) (lengthOf k) (ap (λ (x : Head). decoded x s) e)))
+    (λ (k : Kind) (e : head-01 s ≡ Good k). sym (ap timeAllowed (time-own k s)) ∙ h (recordAt k s) (recordLength k) (ap (λ (x : Head). decoded x s) e)))
 
 pub as-before : (s : List ℕ) (at : ℕ) → isOffset (drop at s) ≡ false → Timely (drop at s)
     → readAt s (record { at = at; offset = pos 0 }) ≡ read-01 s at

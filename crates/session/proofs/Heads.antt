@@ -19,7 +19,7 @@ use Rattle.session.specs.declared.record.Decoded.the-variants.{Whole}
 use Rattle.field.specs.Bytes.{field}
 use Rattle.session.specs.Layout.{vehicleAt, byteAt, timeAt, numbersFrom, allFinite, recordAt, timeIn}
 use Rattle.session.specs.Limits.{timeAllowed}
-use Rattle.session.specs.Kinds.{kindOf, lengthOf, countOf, topOf}
+use Rattle.session.specs.Kinds.{kindOf, recordLength, countOf, topOf}
 use Rattle.session.specs.Decode.{allowedAt, judged, headOf, decoded, decodeOf}
 use Rattle.session.proofs.Table.{long}
 
@@ -41,8 +41,8 @@ front false false h k p = p
 
 -- what each test has shown
 pub record Holds (k : Kind) (s : List ℕ) : Type 0 where
-  pub length-field : field 0 2 s ≡ lengthOf k
-  pub size : lengthOf k ≤ length s
+  pub length-field : field 0 2 s ≡ recordLength k
+  pub size : recordLength k ≤ length s
   pub vehicle : vehicleAt s ≤ 1
   pub byte : byteAt s ≤ topOf k
   pub time : timeAllowed (timeAt s) ≡ true
@@ -51,15 +51,15 @@ pub record Holds (k : Kind) (s : List ℕ) : Type 0 where
 judged-good : (f : Found) (s : List ℕ) (k : Kind) → judged f s ≡ Good k → (f ≡ Known k) × Holds k s
 judged-good Unknown s k p = never 13 k p
 judged-good (Known j) s k p =
-    let t = tests (eqb (field 0 2 s) (lengthOf j)) (ltb (length s) (lengthOf j)) (allowedAt j s) j k p in
+    let t = tests (eqb (field 0 2 s) (recordLength j)) (ltb (length s) (recordLength j)) (allowedAt j s) j k p in
     let b = each (leb (vehicleAt s) 1 && leb (byteAt s) (topOf j) && timeAllowed (timeAt s)) (allFinite (numbersFrom 0 (countOf j) s)) (t .2) in
     let m = each (leb (vehicleAt s) 1 && leb (byteAt s) (topOf j)) (timeAllowed (timeAt s)) (b .0) in
     let d = each (leb (vehicleAt s) 1) (leb (byteAt s) (topOf j)) (m .0) in
     rw (← t .3) (
       refl,
       record {
-        length-field = eqb-true (field 0 2 s) (lengthOf j) (t .0);
-        size = ltb-false (length s) (lengthOf j) (t .1);
+        length-field = eqb-true (field 0 2 s) (recordLength j) (t .0);
+        size = ltb-false (length s) (recordLength j) (t .1);
         vehicle = leb-true (vehicleAt s) 1 (d .0);
         byte = leb-true (byteAt s) (topOf j) (d .1);
         time = m .1;
@@ -77,7 +77,7 @@ pub good-head : (s : List ℕ) (k : Kind) → headOf s ≡ Good k → Holds k s
 good-head s k p = good s k p .1
 
 fits-of : (h : Head) (s : List ℕ) (r : Record) (n : ℕ) → h ≡ headOf s → decoded h s ≡ Whole r n → (30 ≤ n) × (n ≤ length s)
-fits-of (Good k) s r n e p = let q : lengthOf k ≡ n = cc in rw (← q) (long k, good-head s k (sym e) .size)
+fits-of (Good k) s r n e p = let q : recordLength k ≡ n = cc in rw (← q) (long k, good-head s k (sym e) .size)
 fits-of (Bad x) s r n e p = let z : _≡_ {A = ℕ} 0 1 = cc in let w : ⊥ = omega arith in absurd w
 
 time-of : (h : Head) (s : List ℕ) (r : Record) (n : ℕ) → h ≡ headOf s → decoded h s ≡ Whole r n → timeAllowed (timeIn r) ≡ true

@@ -18,14 +18,14 @@ use Rattle.session.specs.declared.record.Record.{Record}
 use Rattle.session.specs.declared.record.Decoded.the-variants.{Whole, Offset, Refused}
 use Rattle.field.specs.Bytes.{field}
 use Rattle.session.specs.Limits.{offsetAllowed}
-use Rattle.session.specs.Kinds.{numberOf}
+use Rattle.session.specs.Kinds.{kindNumber}
 use Rattle.session.specs.Decode.{headOf, decoded, decodeOf}
 use Rattle.session.specs.Offset.{isOffset, minutesAt, goodOffset, offsetOf, decodeAt}
 use Rattle.session.proofs.Table.{kind-number}
 use Rattle.session.proofs.Heads.{good-kind}
 
 -- no record of the table has kind 4
-small : (k : Kind) → numberOf k < 4
+small : (k : Kind) → kindNumber k < 4
 small State = lit< tt
 small Burn = lit< tt
 small Mark = lit< tt

@@ -26,7 +26,7 @@ use Rattle.session.specs.declared.record.Record.{Record}
 use Rattle.session.specs.declared.record.Record.the-variants as R
 use Rattle.session.specs.declared.record.Decoded.the-variants.{Whole}
 use Rattle.field.specs.Bytes.{le, field, bytesLe, bitsOf}
-use Rattle.session.specs.Kinds.{numberOf, lengthOf, countOf, kindOf}
+use Rattle.session.specs.Kinds.{kindNumber, recordLength, countOf, kindOf}
 use Rattle.session.specs.Layout.{vehicleAt, byteAt, timeAt, numberAt, numbersFrom, recordWith, recordAt, kindIn, vehicleIn, byteIn, timeIn, numbersIn, headerBytes, numberBytes, bytesOf}
 use Rattle.session.specs.Decode.{allowed, allowedAt, allowedIn, judged, headOf, decoded, decodeOf, AllFit, Held}
 use Rattle.field.proofs.Bytes.{le-bytes, bytes-length}
@@ -79,13 +79,13 @@ module _ (k : Kind) (v b : ℕ) (t : ℤ) (xs : List Float) (rest : List ℕ)
   unfolding bytesLe numberBytes
   s = headerBytes k v b t ++ numberBytes xs ++ rest
 
-  length-back : field 0 2 s ≡ lengthOf k
+  length-back : field 0 2 s ≡ recordLength k
   unfolding bytesLe s
-  length-back = le-bytes 2 (lengthOf k) (length-word k)
+  length-back = le-bytes 2 (recordLength k) (length-word k)
 
-  number-back-2 : field 2 2 s ≡ numberOf k
+  number-back-2 : field 2 2 s ≡ kindNumber k
   unfolding bytesLe s
-  number-back-2 = le-bytes 2 (numberOf k) (number-word k)
+  number-back-2 = le-bytes 2 (kindNumber k) (number-word k)
 
   vehicle-back : vehicleAt s ≡ v
   unfolding bytesLe s
@@ -108,7 +108,7 @@ module _ (k : Kind) (v b : ℕ) (t : ℤ) (xs : List Float) (rest : List ℕ)
       ap (λ (z : List ℕ). ofBits binary64 (le (take 8 z))) (sym (drop-drop (8 * i) 14 s) ∙ ap (drop (8 * i)) behind)
       ∙ number-back xs i rest h fit
 
-  size-back : lengthOf k ≤ length s
+  size-back : recordLength k ≤ length s
   unfolding bytesLe s
   size-back = omega (arith, length-append (numberBytes xs) rest, numbers-length xs, length-law k)
 
@@ -133,26 +133,26 @@ module _ (k : Kind) (v b : ℕ) (t : ℤ) (xs : List Float) (rest : List ℕ)
 
   head-back : allowed k v b t xs ≡ true → headOf s ≡ Good k
   head-back a =
-      let four : 4 ≤ lengthOf k = omega (arith, length-law k) in
+      let four : 4 ≤ recordLength k = omega (arith, length-law k) in
       ap (λ (q : Bool). cond q (Bad 11) (cond (ltb (field 0 2 s) 4) (Bad 12) (judged (kindOf (field 2 2 s)) s))) (le-ltb (length s) 4 (omega (arith, size-back)))
       ∙ ap (λ (q : Bool). cond q (Bad 12) (judged (kindOf (field 2 2 s)) s)) (le-ltb (field 0 2 s) 4 (omega (arith, length-back)))
       ∙ ap (λ (f : Found). judged f s) (ap kindOf number-back-2 ∙ kind-back k)
-      ∙ ap (λ (q : Bool). cond (not q) (Bad 12) (cond (ltb (length s) (lengthOf k)) (Bad 11) (cond (allowedAt k s) (Good k) (Bad 14)))) (eq-eqb _ _ length-back)
-      ∙ ap (λ (q : Bool). cond q (Bad 11) (cond (allowedAt k s) (Good k) (Bad 14))) (le-ltb (length s) (lengthOf k) size-back)
+      ∙ ap (λ (q : Bool). cond (not q) (Bad 12) (cond (ltb (length s) (recordLength k)) (Bad 11) (cond (allowedAt k s) (Good k) (Bad 14)))) (eq-eqb _ _ length-back)
+      ∙ ap (λ (q : Bool). cond q (Bad 11) (cond (allowedAt k s) (Good k) (Bad 14))) (le-ltb (length s) (recordLength k) size-back)
       ∙ ap (λ (q : Bool). cond q (Good k) (Bad 14)) (allowed-back ∙ a)
 
-  fields-back : allowed k v b t xs ≡ true → decodeOf s ≡ Whole (recordWith k v b t (λ (i : ℕ). getD xs i f0)) (lengthOf k)
-  fields-back a = ap (λ (h : Head). decoded h s) (head-back a) ∙ ap (λ (r : Record). Whole r (lengthOf k)) record-back
+  fields-back : allowed k v b t xs ≡ true → decodeOf s ≡ Whole (recordWith k v b t (λ (i : ℕ). getD xs i f0)) (recordLength k)
+  fields-back a = ap (λ (h : Head). decoded h s) (head-back a) ∙ ap (λ (r : Record). Whole r (recordLength k)) record-back
 
 -- the bytes of a record, and any bytes behind them
 pub read-back : (r : Record) (rest : List ℕ) → Held r → allowedIn r ≡ true
-    → decodeOf (bytesOf r ++ rest) ≡ Whole r (lengthOf (kindIn r))
+    → decodeOf (bytesOf r ++ rest) ≡ Whole r (recordLength (kindIn r))
 unfolding s
 read-back r rest h a =
     fields-back (kindIn r) (vehicleIn r) (byteIn r) (timeIn r) (numbersIn r) rest (count-own r) (h .time) (h .numbers) a
-    ∙ ap (λ (x : Record). Whole x (lengthOf (kindIn r))) (with-own r)
+    ∙ ap (λ (x : Record). Whole x (recordLength (kindIn r))) (with-own r)
 
 -- how many they are
-pub bytes-of-length : (r : Record) → length (bytesOf r) ≡ lengthOf (kindIn r)
+pub bytes-of-length : (r : Record) → length (bytesOf r) ≡ recordLength (kindIn r)
 unfolding bytesLe
 bytes-of-length r = omega (arith, numbers-length (numbersIn r), count-own r, length-law (kindIn r))

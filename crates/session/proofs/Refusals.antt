@@ -20,7 +20,7 @@ use Rattle.session.specs.declared.Place.{Place}
 use Rattle.session.specs.declared.Reading.{Reading}
 use Rattle.session.specs.declared.Reading.the-variants.{Record, Offset, End, Refused}
 use Rattle.field.specs.Bytes.{field}
-use Rattle.session.specs.Kinds.{kindOf, lengthOf}
+use Rattle.session.specs.Kinds.{kindOf, recordLength}
 use Rattle.session.specs.Decode.{allowedAt, judged, headOf, decoded, decodeOf}
 use Rattle.session.specs.Limits.{offsetAllowed}
 use Rattle.session.specs.Offset.{isOffset, minutesAt, goodOffset, offsetOf, decodeAt}
@@ -41,7 +41,7 @@ tests-given true false false k = (lit≤ tt, lit≤ tt)
 
 judged-given : (f : Found) (s : List ℕ) → GivenBy (judged f s)
 judged-given Unknown s = (lit≤ tt, lit≤ tt)
-judged-given (Known k) s = tests-given (eqb (field 0 2 s) (lengthOf k)) (ltb (length s) (lengthOf k)) (allowedAt k s) k
+judged-given (Known k) s = tests-given (eqb (field 0 2 s) (recordLength k)) (ltb (length s) (recordLength k)) (allowedAt k s) k
 
 front-given : (a b : Bool) (h : Head) → GivenBy h → GivenBy (cond a (Bad 11) (cond b (Bad 12) h))
 front-given true b h g = (lit≤ tt, lit≤ tt)

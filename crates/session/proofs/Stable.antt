@@ -19,7 +19,7 @@ use Rattle.session.specs.declared.record.Record.{Record}
 use Rattle.session.specs.declared.record.Decoded.the-variants.{Whole, Refused}
 use Rattle.field.specs.Bytes.{le, field}
 use Rattle.session.specs.Layout.{numberAt, numbersFrom, recordAt}
-use Rattle.session.specs.Kinds.{kindOf, lengthOf, countOf}
+use Rattle.session.specs.Kinds.{kindOf, recordLength, countOf}
 use Rattle.session.proofs.Table.{length-law}
 use Rattle.session.specs.Decode.{allowedAt, judged, headOf, decoded, decodeOf}
 use Rattle.session.proofs.Heads.{good-head}
@@ -45,7 +45,7 @@ module _ (s t : List ℕ) where
   byte-more : (i : ℕ) → i < length s → getD (s ++ t) i 0 ≡ getD s i 0
   byte-more i h = List·getD-append s t 0 i h
 
-  allowed-more : (k : Kind) → lengthOf k ≤ length s → allowedAt k (s ++ t) ≡ allowedAt k s
+  allowed-more : (k : Kind) → recordLength k ≤ length s → allowedAt k (s ++ t) ≡ allowedAt k s
   allowed-more k h =
       let a = byte-more 4 (omega (arith, length-law k)) in
       let b = byte-more 5 (omega (arith, length-law k)) in
@@ -53,7 +53,7 @@ module _ (s t : List ℕ) where
       let d = field-more 6 8 (omega (arith, length-law k)) in
       rw (a, b, c, d) refl
 
-  record-more : (k : Kind) → lengthOf k ≤ length s → recordAt k (s ++ t) ≡ recordAt k s
+  record-more : (k : Kind) → recordLength k ≤ length s → recordAt k (s ++ t) ≡ recordAt k s
   record-more State h = cc (byte-more 4 (omega arith), byte-more 5 (omega arith), field-more 6 8 (omega arith), number-more 0 (omega arith), number-more 1 (omega arith), number-more 2 (omega arith), number-more 3 (omega arith), number-more 4 (omega arith), number-more 5 (omega arith))
   record-more Burn h = cc (byte-more 4 (omega arith), field-more 6 8 (omega arith), number-more 0 (omega arith), number-more 1 (omega arith), number-more 2 (omega arith))
   record-more Mark h = cc (byte-more 4 (omega arith), field-more 6 8 (omega arith), number-more 0 (omega arith), number-more 1 (omega arith))
@@ -62,22 +62,22 @@ module _ (s t : List ℕ) where
   longer n h = le-ltb (length (s ++ t)) n (simp length-append (omega arith))
 
   -- by the test of the length, where the record is not cut short
-  by-length : (k : Kind) (e b : Bool) → ltb (length s) (lengthOf k) ≡ b
+  by-length : (k : Kind) (e b : Bool) → ltb (length s) (recordLength k) ≡ b
       → (cond (not e) (Bad 12) (cond b (Bad 11) (cond (allowedAt k s) (Good k) (Bad 14))) ≡ Bad 11 → ⊥)
-      → cond (not e) (Bad 12) (cond (ltb (length (s ++ t)) (lengthOf k)) (Bad 11) (cond (allowedAt k (s ++ t)) (Good k) (Bad 14)))
+      → cond (not e) (Bad 12) (cond (ltb (length (s ++ t)) (recordLength k)) (Bad 11) (cond (allowedAt k (s ++ t)) (Good k) (Bad 14)))
       ≡ cond (not e) (Bad 12) (cond b (Bad 11) (cond (allowedAt k s) (Good k) (Bad 14)))
   by-length k false b q z = refl
   by-length k true true q z = absurd (z refl)
   by-length k true false q z =
-      let l = ltb-false (length s) (lengthOf k) q in
-      ap (λ (x : Bool). cond x (Bad 11) (cond (allowedAt k (s ++ t)) (Good k) (Bad 14))) (longer (lengthOf k) l)
+      let l = ltb-false (length s) (recordLength k) q in
+      ap (λ (x : Bool). cond x (Bad 11) (cond (allowedAt k (s ++ t)) (Good k) (Bad 14))) (longer (recordLength k) l)
       ∙ ap (λ (x : Bool). cond x (Good k) (Bad 14)) (allowed-more k l)
 
   judged-more : (f : Found) → 2 ≤ length s → (judged f s ≡ Bad 11 → ⊥) → judged f (s ++ t) ≡ judged f s
   judged-more Unknown h z = refl
   judged-more (Known k) h z =
-      ap (λ (n : ℕ). cond (not (eqb n (lengthOf k))) (Bad 12) (cond (ltb (length (s ++ t)) (lengthOf k)) (Bad 11) (cond (allowedAt k (s ++ t)) (Good k) (Bad 14)))) (field-more 0 2 h)
-      ∙ by-length k (eqb (field 0 2 s) (lengthOf k)) (ltb (length s) (lengthOf k)) refl z
+      ap (λ (n : ℕ). cond (not (eqb n (recordLength k))) (Bad 12) (cond (ltb (length (s ++ t)) (recordLength k)) (Bad 11) (cond (allowedAt k (s ++ t)) (Good k) (Bad 14)))) (field-more 0 2 h)
+      ∙ by-length k (eqb (field 0 2 s) (recordLength k)) (ltb (length s) (recordLength k)) refl z
 
   by-kind : (b : Bool) → 4 ≤ length s → (cond b (Bad 12) (judged (kindOf (field 2 2 s)) s) ≡ Bad 11 → ⊥)
       → cond b (Bad 12) (judged (kindOf (field 2 2 (s ++ t))) (s ++ t)) ≡ cond b (Bad 12) (judged (kindOf (field 2 2 s)) s)
@@ -98,7 +98,7 @@ module _ (s t : List ℕ) where
   head-more z = by-four (ltb (length s) 4) refl z
 
   by-head : (h : Head) → h ≡ headOf s → decoded h (s ++ t) ≡ decoded h s
-  by-head (Good k) e = ap (λ (r : Record). Whole r (lengthOf k)) (record-more k (good-head s k (sym e) .size))
+  by-head (Good k) e = ap (λ (r : Record). Whole r (recordLength k)) (record-more k (good-head s k (sym e) .size))
   by-head (Bad x) e = refl
 
   pub stable : (decodeOf s ≡ Refused 11 → ⊥) → decodeOf (s ++ t) ≡ decodeOf s

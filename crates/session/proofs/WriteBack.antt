@@ -20,8 +20,8 @@ use Rattle.session.specs.declared.record.Head.the-variants.{Good, Bad}
 use Rattle.session.specs.declared.record.Record.{Record}
 use Rattle.session.specs.declared.record.Decoded.the-variants.{Whole}
 use Rattle.field.specs.Bytes.{le, field, bytesLe, bitsOf}
-use Rattle.session.specs.Kinds.{numberOf, lengthOf, countOf, topOf}
-use Rattle.session.specs.Layout.{vehicleAt, byteAt, timeAt, wordAt, numberAt, numbersFrom, allFinite, recordAt, headerBytes, numberBytes, bytesOf}
+use Rattle.session.specs.Kinds.{kindNumber, recordLength, countOf, topOf}
+use Rattle.session.specs.Layout.{vehicleAt, byteAt, timeAt, bitsAt, numberAt, numbersFrom, allFinite, recordAt, headerBytes, numberBytes, bytesOf}
 use Rattle.session.specs.Decode.{headOf, decoded, decodeOf}
 use Rattle.session.proofs.Table.{length-law, kind-number}
 use Rattle.session.proofs.Heads.{good-head, good-kind}
@@ -50,7 +50,7 @@ module _ (s : List ℕ) (bytes : Bytes s) where
       let l = drop (14 + 8 * j) s in
       let e : 8 * suc n ≡ 8 + 8 * n = omega arith in
       let p : 14 + 8 * j + 8 ≡ 14 + 8 * (j + 1) = omega arith in
-      ap (λ (k : ℕ). bytesLe 8 k ++ numberBytes (numbersFrom (j + 1) n s)) (toBits-ofBits binary64 (wordAt s j) (field-below (14 + 8 * j) 8 (omega arith)) (finite-not-nan (numberAt s j) (b .0)))
+      ap (λ (k : ℕ). bytesLe 8 k ++ numberBytes (numbersFrom (j + 1) n s)) (toBits-ofBits binary64 (bitsAt s j) (field-below (14 + 8 * j) 8 (omega arith)) (finite-not-nan (numberAt s j) (b .0)))
       ∙ ap (λ (z : List ℕ). z ++ numberBytes (numbersFrom (j + 1) n s)) (field-bytes (14 + 8 * j) 8 (omega arith))
       ∙ ap (λ (z : List ℕ). take 8 l ++ z) (numbers-bytes (j + 1) n (omega arith) (b .1))
       ∙ ap (λ (z : List ℕ). take 8 l ++ take (8 * n) z) (ap (λ (k : ℕ). drop k s) (sym p) ∙ sym (drop-drop 8 (14 + 8 * j) s))
@@ -58,16 +58,16 @@ module _ (s : List ℕ) (bytes : Bytes s) where
       ∙ ap (λ (k : ℕ). take k l) (sym e)
 
   -- the header
-  header-bytes : (k : Kind) → field 0 2 s ≡ lengthOf k → field 2 2 s ≡ numberOf k → 14 ≤ length s
+  header-bytes : (k : Kind) → field 0 2 s ≡ recordLength k → field 2 2 s ≡ kindNumber k → 14 ≤ length s
       → headerBytes k (vehicleAt s) (byteAt s) (timeAt s) ≡ take 14 s
   header-bytes k a b h =
       let t : bitsOf (timeAt s) ≡ field 6 8 s = ofZ-toZ {w = w64} {n = field 6 8 s} (record { fits = field-below 6 8 h }) in
       let v = vehicleAt s ∷ byteAt s ∷ take 8 (drop 6 s) in
       let c : drop 4 s ≡ vehicleAt s ∷ byteAt s ∷ drop 6 s =
       drop-cons s 4 0 (omega arith) ∙ ap (λ (z : List ℕ). vehicleAt s ∷ z) (drop-cons s 5 0 (omega arith)) in
-      ap (λ (n : ℕ). bytesLe 2 (lengthOf k) ++ bytesLe 2 (numberOf k) ++ (vehicleAt s ∷ byteAt s ∷ bytesLe 8 n)) t
-      ∙ ap (λ (z : List ℕ). bytesLe 2 (lengthOf k) ++ bytesLe 2 (numberOf k) ++ (vehicleAt s ∷ byteAt s ∷ z)) (field-bytes 6 8 h)
-      ∙ ap (λ (n : ℕ). bytesLe 2 n ++ bytesLe 2 (numberOf k) ++ v) (sym a)
+      ap (λ (n : ℕ). bytesLe 2 (recordLength k) ++ bytesLe 2 (kindNumber k) ++ (vehicleAt s ∷ byteAt s ∷ bytesLe 8 n)) t
+      ∙ ap (λ (z : List ℕ). bytesLe 2 (recordLength k) ++ bytesLe 2 (kindNumber k) ++ (vehicleAt s ∷ byteAt s ∷ z)) (field-bytes 6 8 h)
+      ∙ ap (λ (n : ℕ). bytesLe 2 n ++ bytesLe 2 (kindNumber k) ++ v) (sym a)
       ∙ ap (λ (n : ℕ). bytesLe 2 (field 0 2 s) ++ bytesLe 2 n ++ v) (sym b)
       ∙ ap (λ (z : List ℕ). z ++ bytesLe 2 (field 2 2 s) ++ v) (field-bytes 0 2 (omega arith))
       ∙ ap (λ (z : List ℕ). take 2 s ++ z ++ v) (field-bytes 2 2 (omega arith))
@@ -83,7 +83,7 @@ module _ (s : List ℕ) (bytes : Bytes s) where
   own-bytes Burn h = let z : 0 ≡ byteAt s = omega arith in ap (λ (b : ℕ). headerBytes Burn (vehicleAt s) b (timeAt s) ++ numberBytes (numbersFrom 0 3 s)) z
   own-bytes Mark h = let z : 0 ≡ byteAt s = omega arith in ap (λ (b : ℕ). headerBytes Mark (vehicleAt s) b (timeAt s) ++ numberBytes (numbersFrom 0 2 s)) z
 
-  kind-bytes : (k : Kind) → headOf s ≡ Good k → bytesOf (recordAt k s) ≡ take (lengthOf k) s
+  kind-bytes : (k : Kind) → headOf s ≡ Good k → bytesOf (recordAt k s) ≡ take (recordLength k) s
   kind-bytes k e =
       let h = good-head s k e in
       let l = length-law k in
@@ -96,7 +96,7 @@ module _ (s : List ℕ) (bytes : Bytes s) where
   head-bytes : (h : Head) (r : Record) (n : ℕ) → h ≡ headOf s → decoded h s ≡ Whole r n → bytesOf r ≡ take n s
   head-bytes (Good k) r n e p =
       let x : recordAt k s ≡ r = cc in
-      let y : lengthOf k ≡ n = cc in
+      let y : recordLength k ≡ n = cc in
       ap bytesOf (sym x) ∙ kind-bytes k (sym e) ∙ ap (λ (m : ℕ). take m s) y
   head-bytes (Bad x) r n e p = let z : _≡_ {A = ℕ} 0 1 = cc in let w : ⊥ = omega arith in absurd w
 

@@ -17,7 +17,7 @@ use Rattle.session.specs.declared.record.Record.{Record}
 use Rattle.session.specs.declared.record.Decoded.{Decoded}
 use Rattle.session.specs.declared.record.Decoded.the-variants.{Whole, Refused}
 use Rattle.field.specs.Bytes.{field}
-use Rattle.session.specs.Kinds.{kindOf, lengthOf, countOf, topOf}
+use Rattle.session.specs.Kinds.{kindOf, recordLength, countOf, topOf}
 use Rattle.session.specs.Limits.{timeAllowed}
 use Rattle.session.specs.Layout.{vehicleAt, byteAt, timeAt, numbersFrom, allFinite, recordAt, kindIn, vehicleIn, byteIn, timeIn, numbersIn}
 
@@ -35,14 +35,14 @@ allowedIn r = allowed (kindIn r) (vehicleIn r) (byteIn r) (timeIn r) (numbersIn 
 abbrev pub judged : Found → List ℕ → Head
 judged Unknown s = Bad 13
 judged (Known k) s =
-    cond (not (eqb (field 0 2 s) (lengthOf k))) (Bad 12)
-    (cond (ltb (length s) (lengthOf k)) (Bad 11) (cond (allowedAt k s) (Good k) (Bad 14)))
+    cond (not (eqb (field 0 2 s) (recordLength k))) (Bad 12)
+    (cond (ltb (length s) (recordLength k)) (Bad 11) (cond (allowedAt k s) (Good k) (Bad 14)))
 
 abbrev pub headOf : List ℕ → Head
 headOf s = cond (ltb (length s) 4) (Bad 11) (cond (ltb (field 0 2 s) 4) (Bad 12) (judged (kindOf (field 2 2 s)) s))
 
 abbrev pub decoded : Head → List ℕ → Decoded
-decoded (Good k) s = Whole (recordAt k s) (lengthOf k)
+decoded (Good k) s = Whole (recordAt k s) (recordLength k)
 decoded (Bad n) s = Refused n
 
 abbrev pub decodeOf : List ℕ → Decoded

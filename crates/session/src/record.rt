@@ -3,7 +3,7 @@ ghost use Prim.Native.Nat.{_+_, _*_, _≤_};
 ghost use mathlib.Core.Path.{_≡_};
 ghost use lib.ListN.{length};
 ghost use Rattle.field.specs.Bytes.{field};
-ghost use Rattle.session.specs.Kinds.{kindOf, lengthOf, countOf, topOf};
+ghost use Rattle.session.specs.Kinds.{kindOf, recordLength, countOf, topOf};
 ghost use Rattle.session.specs.Layout.{recordAt};
 ghost use Rattle.session.specs.Decode.{allowedAt, judged, headOf, decodeOf};
 use crate::limit::time_allowed;
@@ -88,7 +88,7 @@ fn kind_of(n: u64) -> Found
 }
 
 fn shape_of(k: Kind) -> Shape
-    ensures { λ r. ⌜ (r .length ≡ lengthOf k) × (r .count ≡ countOf k) × (r .top ≡ topOf k) ⌝ }
+    ensures { λ r. ⌜ (r .length ≡ recordLength k) × (r .count ≡ countOf k) × (r .top ≡ topOf k) ⌝ }
 {
     match k {
         Kind::State => Shape {
@@ -110,7 +110,7 @@ fn shape_of(k: Kind) -> Shape
 }
 
 fn is_allowed(k: Kind, s: &[u8]) -> bool
-    requires { ⌜ lengthOf k ≤ length (now s) ⌝ }
+    requires { ⌜ recordLength k ≤ length (now s) ⌝ }
     ensures { λ r. ⌜ r ≡ allowedAt k (now (s .entry)) ⌝ }
 {
     let shape = shape_of(k);
@@ -227,7 +227,7 @@ fn mark_of(s: &[u8]) -> Record
 }
 
 fn record_of(k: Kind, s: &[u8]) -> Record
-    requires { ⌜ lengthOf k ≤ length (now s) ⌝ }
+    requires { ⌜ recordLength k ≤ length (now s) ⌝ }
     ensures { λ r. ⌜ r ≡ recordAt k (now (s .entry)) ⌝ }
 {
     match k {

@@ -18,7 +18,7 @@ use Rattle.text.specs.Pieces.{concat}
 use Rattle.session.proofs.Stable.{field-more}
 use Rattle.settings.specs.declared.allowed.Setting.{Setting}
 use Rattle.settings.specs.Allowed.{refusalOf}
-use Rattle.settings.specs.Layout.{numberAt, settingAt, isVersion, versionBytes, Held}
+use Rattle.settings.specs.Layout.{constantAt, settingAt, isVersion, versionBytes, Held}
 use Rattle.settings.proofs.Allows.{body-allowed}
 
 -- a setting is what its fields make
@@ -54,19 +54,19 @@ module _ (k : ℕ) (x : Setting) (rest : List ℕ) where
   unfolding concat bytesLe s
   zeros-back = refl
 
-  mu-back : T (fits binary64 (x .mu)) → numberAt 12 s ≡ x .mu
+  mu-back : T (fits binary64 (x .mu)) → constantAt 12 s ≡ x .mu
   unfolding concat bytesLe s
   mu-back h = number-back (x .mu) h
 
-  radius-back : T (fits binary64 (x .radius)) → numberAt 20 s ≡ x .radius
+  radius-back : T (fits binary64 (x .radius)) → constantAt 20 s ≡ x .radius
   unfolding concat bytesLe s
   radius-back h = number-back (x .radius) h
 
-  closed-back : T (fits binary64 (x .closed)) → numberAt 28 s ≡ x .closed
+  closed-back : T (fits binary64 (x .closed)) → constantAt 28 s ≡ x .closed
   unfolding concat bytesLe s
   closed-back h = number-back (x .closed) h
 
-  fair-back : T (fits binary64 (x .fair)) → numberAt 36 s ≡ x .fair
+  fair-back : T (fits binary64 (x .fair)) → constantAt 36 s ≡ x .fair
   unfolding concat bytesLe s
   fair-back h = number-back (x .fair) h
 

@@ -16,8 +16,8 @@ use Rattle.settings.specs.declared.Looked.the-variants as L
 use Rattle.settings.specs.declared.Stored.{Stored}
 use Rattle.settings.specs.declared.Stored.the-variants.{Version, Refused}
 use Rattle.settings.specs.Allowed.{refusalOf}
-use Rattle.settings.specs.Layout.{countOf, wholeOf, versionBytes, Held}
-use Rattle.settings.specs.History.{versionIn, lookUp, nextOf, isUsed, storedOf, copiedBy, backOf, after}
+use Rattle.settings.specs.Layout.{versionsIn, areWhole, versionBytes, Held}
+use Rattle.settings.specs.History.{versionIn, lookUp, nextOf, isUsed, storedOf, copiedBy, backOf, bufferAfter}
 use Rattle.settings.proofs.Versions.{version-length}
 use Rattle.settings.proofs.Cases.{stored}
 use Rattle.settings.proofs.Backs.{held-at}
@@ -40,16 +40,16 @@ stored-by true true n t k r h = (refl, refl, h)
 module _ (d : List ℕ) (used k r : ℕ) where
   -- there was room for one version more
   record Room : Type 0 where
-    below : countOf used < 64
+    below : versionsIn used < 64
     behind : r ≡ used + 44
     within : r ≤ length d
-    next : k ≡ countOf used + 1
+    next : k ≡ versionsIn used + 1
 
   room-of : nextOf d used ≡ Version k r → Room
   room-of h =
-      let n = next-by (leb 64 (countOf used)) (ltb (length d) (used + 44)) (countOf used + 1) (used + 44) k r h in
+      let n = next-by (leb 64 (versionsIn used)) (ltb (length d) (used + 44)) (versionsIn used + 1) (used + 44) k r h in
       record {
-        below = leb-false 64 (countOf used) (n .0);
+        below = leb-false 64 (versionsIn used) (n .0);
         behind = sym (n .3);
         within = omega (arith, ltb-false (length d) (used + 44) (n .1), n .3);
         next = sym (n .2);
@@ -58,7 +58,7 @@ module _ (d : List ℕ) (used k r : ℕ) where
   module _ (x : Setting) where
     record Was : Type 0 where
       inside : used ≤ length d
-      whole : wholeOf (take used d) ≡ true
+      whole : areWhole (take used d) ≡ true
       allow : refusalOf x ≡ 0
       room : Room
 
@@ -67,8 +67,8 @@ module _ (d : List ℕ) (used k r : ℕ) where
         let a = leb used (length d) in
         let s = stored-by (isUsed d used) (eqb (refusalOf x) 0) (refusalOf x) (nextOf d used) k r h in
         record {
-          inside = leb-true used (length d) (and-0 a (wholeOf (take used d)) (s .0));
-          whole = and-1 a (wholeOf (take used d)) (s .0);
+          inside = leb-true used (length d) (and-0 a (areWhole (take used d)) (s .0));
+          whole = and-1 a (areWhole (take used d)) (s .0);
           allow = eqb→eq _ _ (subst T (sym (s .1)) tt);
           room = room-of (s .2);
         }
@@ -84,42 +84,42 @@ module _ (d : List ℕ) (used : ℕ) (x : Setting) (k r : ℕ) (held : Held x) (
   w = was d used k r x h
 
   -- the number is one more than the latest, beginning with 1, and the used part is so many versions
-  pub next-number : (k ≡ countOf used + 1) × (used ≡ 44 * countOf used) × (r ≡ 44 * k) × (k ≤ 64)
+  pub next-number : (k ≡ versionsIn used + 1) × (used ≡ 44 * versionsIn used) × (r ≡ 44 * k) × (k ≤ 64)
   next-number =
       let l = length-take-le used d (w .inside) in
       let z = whole-is (take used d) (w .whole) .size in
-      let u : used ≡ 44 * countOf used = sym l ∙ z ∙ ap (λ (n : ℕ). 44 * countOf n) l in
+      let u : used ≡ 44 * versionsIn used = sym l ∙ z ∙ ap (λ (n : ℕ). 44 * versionsIn n) l in
       (w .room .next, u, omega (arith, w .room .next, w .room .behind, u), omega (arith, w .room .next, w .room .below))
 
   size : length (take used d) ≡ used
   size = length-take-le used d (w .inside)
 
   -- the used part afterwards
-  pub used-after : take r (after (Version k r) d used x) ≡ take used d ++ versionBytes (countOf (length (take used d)) + 1) x
-  unfolding after
+  pub used-after : take r (bufferAfter (Version k r) d used x) ≡ take used d ++ versionBytes (versionsIn (length (take used d)) + 1) x
+  unfolding bufferAfter
   used-after =
-      let p : Stands d used (versionBytes k x) (after (Version k r) d used x) r =
+      let p : Stands d used (versionBytes k x) (bufferAfter (Version k r) d used x) r =
       record { next = w .room .behind ∙ ap (λ (n : ℕ). used + n) (sym (version-length k x)); within = w .room .within; whole = refl } in
-      before-place p ∙ ap (λ (n : ℕ). take used d ++ versionBytes n x) (w .room .next ∙ ap (λ (n : ℕ). countOf n + 1) (sym size))
+      before-place p ∙ ap (λ (n : ℕ). take used d ++ versionBytes n x) (w .room .next ∙ ap (λ (n : ℕ). versionsIn n + 1) (sym size))
 
-  below : countOf (length (take used d)) < 64
-  below = subst (λ (n : ℕ). countOf n < 64) (sym size) (w .room .below)
+  below : versionsIn (length (take used d)) < 64
+  below = subst (λ (n : ℕ). versionsIn n < 64) (sym size) (w .room .below)
 
-  pub whole-after : wholeOf (take r (after (Version k r) d used x)) ≡ true
-  whole-after = ap wholeOf used-after ∙ longer-whole (take used d) x (w .whole) below held (w .allow)
+  pub whole-after : areWhole (take r (bufferAfter (Version k r) d used x)) ≡ true
+  whole-after = ap areWhole used-after ∙ longer-whole (take used d) x (w .whole) below held (w .allow)
 
   -- what is stored is found again under its number
-  pub stored-found : lookUp (take r (after (Version k r) d used x)) k ≡ L.Found x
+  pub stored-found : lookUp (take r (bufferAfter (Version k r) d used x)) k ≡ L.Found x
   stored-found =
-      ap (λ (n : ℕ). lookUp (take r (after (Version k r) d used x)) n) (w .room .next ∙ ap (λ (n : ℕ). countOf n + 1) (sym size))
-      ∙ ap (λ (s : List ℕ). lookUp s (countOf (length (take used d)) + 1)) used-after
+      ap (λ (n : ℕ). lookUp (take r (bufferAfter (Version k r) d used x)) n) (w .room .next ∙ ap (λ (n : ℕ). versionsIn n + 1) (sym size))
+      ∙ ap (λ (s : List ℕ). lookUp s (versionsIn (length (take used d)) + 1)) used-after
       ∙ last-found (take used d) x (w .whole) below held (w .allow)
 
   -- every earlier version is as it was
-  pub stored-earlier : (j : ℕ) → j < k → lookUp (take r (after (Version k r) d used x)) j ≡ lookUp (take used d) j
+  pub stored-earlier : (j : ℕ) → j < k → lookUp (take r (bufferAfter (Version k r) d used x)) j ≡ lookUp (take used d) j
   stored-earlier j g =
       ap (λ (s : List ℕ). lookUp s j) used-after
-      ∙ earlier-same (take used d) x (w .whole) below held (w .allow) j (omega (arith, w .room .next, ap (λ (n : ℕ). countOf n) size))
+      ∙ earlier-same (take used d) x (w .whole) below held (w .allow) j (omega (arith, w .room .next, ap (λ (n : ℕ). versionsIn n) size))
 
 -- ---- going back
 
@@ -145,14 +145,14 @@ module _ (d : List ℕ) (used j k r : ℕ) (h : backOf d used j ≡ Version k r)
   inside : (ltb (length d) used ≡ false) × (copiedBy (lookUp s j) d used ≡ Version k r)
   inside = inside-by (ltb (length d) used) (copiedBy (lookUp s j) d used) k r h
 
-  found : (wholeOf s ≡ true) × (leb 1 j && leb j (countOf (length s)) ≡ true) × (nextOf d used ≡ Version k r)
-  found = found-by (wholeOf s) (leb 1 j && leb j (countOf (length s))) x d used k r (inside .1)
+  found : (areWhole s ≡ true) × (leb 1 j && leb j (versionsIn (length s)) ≡ true) × (nextOf d used ≡ Version k r)
+  found = found-by (areWhole s) (leb 1 j && leb j (versionsIn (length s))) x d used k r (inside .1)
 
   one-on : 1 ≤ j
-  one-on = leb-true 1 j (and-0 (leb 1 j) (leb j (countOf (length s))) (found .1))
+  one-on = leb-true 1 j (and-0 (leb 1 j) (leb j (versionsIn (length s))) (found .1))
 
-  is-there : j ≤ countOf (length s)
-  is-there = leb-true j (countOf (length s)) (and-1 (leb 1 j) (leb j (countOf (length s))) (found .1))
+  is-there : j ≤ versionsIn (length s)
+  is-there = leb-true j (versionsIn (length s)) (and-1 (leb 1 j) (leb j (versionsIn (length s))) (found .1))
 
   -- going back is storing what is found
   pub back-stores : storedOf d used x ≡ Version k r
@@ -162,14 +162,14 @@ module _ (d : List ℕ) (used j k r : ℕ) (h : backOf d used j ≡ Version k r)
 
   pub looked : lookUp s j ≡ L.Found x
   looked =
-      ap (λ (b : Bool). cond (not b) (L.Refused 30) (cond (leb 1 j && leb j (countOf (length s))) (L.Found x) (L.Refused 23))) (found .0)
+      ap (λ (b : Bool). cond (not b) (L.Refused 30) (cond (leb 1 j && leb j (versionsIn (length s))) (L.Found x) (L.Refused 23))) (found .0)
       ∙ ap (λ (b : Bool). cond b (L.Found x) (L.Refused 23)) (found .1)
 
   -- the copy is found under the next number, and every earlier version, the one copied among them, as it was
-  pub back-found : lookUp (take r (after (Version k r) d used x)) k ≡ lookUp s j
+  pub back-found : lookUp (take r (bufferAfter (Version k r) d used x)) k ≡ lookUp s j
   back-found = stored-found d used x k r (held-at (drop (44 * (j - 1)) s)) back-stores ∙ sym looked
 
-  pub back-earlier : (i : ℕ) → i < k → lookUp (take r (after (Version k r) d used x)) i ≡ lookUp s i
+  pub back-earlier : (i : ℕ) → i < k → lookUp (take r (bufferAfter (Version k r) d used x)) i ≡ lookUp s i
   back-earlier i g = stored-earlier d used x k r (held-at (drop (44 * (j - 1)) s)) back-stores i g
 
   pub back-within : r ≤ length d

@@ -15,7 +15,7 @@ use Rattle.field.specs.Bytes.{field}
 use Rattle.settings.specs.declared.allowed.Setting.{Setting}
 use Rattle.settings.specs.declared.Looked.the-variants.{Found}
 use Rattle.settings.specs.Allowed.{refusalOf}
-use Rattle.settings.specs.Layout.{settingAt, isVersion, versionsFrom, countOf, wholeOf, versionBytes, Held}
+use Rattle.settings.specs.Layout.{settingAt, isVersion, versionsFrom, versionsIn, areWhole, versionBytes, Held}
 use Rattle.settings.specs.History.{versionIn, lookUp}
 use Rattle.settings.proofs.Versions.{version-length}
 use Rattle.settings.proofs.Cases.{none-yet, there}
@@ -60,13 +60,13 @@ versions-more (suc n) k s t h =
 -- ---- a used part
 
 pub record Whole (s : List ℕ) : Type 0 where
-  pub size : length s ≡ 44 * countOf (length s)
-  pub few : countOf (length s) ≤ 64
-  pub all : versionsFrom (countOf (length s)) 1 s ≡ true
+  pub size : length s ≡ 44 * versionsIn (length s)
+  pub few : versionsIn (length s) ≤ 64
+  pub all : versionsFrom (versionsIn (length s)) 1 s ≡ true
 
-pub whole-is : (s : List ℕ) → wholeOf s ≡ true → Whole s
+pub whole-is : (s : List ℕ) → areWhole s ≡ true → Whole s
 whole-is s w =
-    let n = countOf (length s) in
+    let n = versionsIn (length s) in
     let h = and-0 (eqb (length s % 44) 0 && leb n 64) (versionsFrom n 1 s) w in
     let e : length s % 44 ≡ 0 = eqb→eq _ _ (subst T (sym (and-0 (eqb (length s % 44) 0) (leb n 64) h)) tt) in
     record {
@@ -75,16 +75,16 @@ whole-is s w =
       all = and-1 (eqb (length s % 44) 0 && leb n 64) (versionsFrom n 1 s) w;
     }
 
-pub whole-by : (s : List ℕ) (n : ℕ) → length s ≡ 44 * n → n ≤ 64 → versionsFrom n 1 s ≡ true → wholeOf s ≡ true
+pub whole-by : (s : List ℕ) (n : ℕ) → length s ≡ 44 * n → n ≤ 64 → versionsFrom n 1 s ≡ true → areWhole s ≡ true
 whole-by s n l h v =
     let r : length s % 44 ≡ 0 = omega (arith, l) in
-    let q : n ≡ countOf (length s) = omega (arith, l) in
-    both (eqb (length s % 44) 0 && leb (countOf (length s)) 64) (versionsFrom (countOf (length s)) 1 s)
-    (both (eqb (length s % 44) 0) (leb (countOf (length s)) 64) (eq-eqb (length s % 44) 0 r) (le-leb (countOf (length s)) 64 (omega (arith, q))))
+    let q : n ≡ versionsIn (length s) = omega (arith, l) in
+    both (eqb (length s % 44) 0 && leb (versionsIn (length s)) 64) (versionsFrom (versionsIn (length s)) 1 s)
+    (both (eqb (length s % 44) 0) (leb (versionsIn (length s)) 64) (eq-eqb (length s % 44) 0 r) (le-leb (versionsIn (length s)) 64 (omega (arith, q))))
     (subst (λ (m : ℕ). versionsFrom m 1 s ≡ true) q v)
 
 -- version k of a used part: it has its number, and its setting is allowed
-module _ (s : List ℕ) (k : ℕ) (w : wholeOf s ≡ true) (g : 1 ≤ k) (h : k ≤ countOf (length s)) where
+module _ (s : List ℕ) (k : ℕ) (w : areWhole s ≡ true) (g : 1 ≤ k) (h : k ≤ versionsIn (length s)) where
   abbrev p : List ℕ
   p = drop (44 * (k - 1)) s
 
@@ -92,7 +92,7 @@ module _ (s : List ℕ) (k : ℕ) (w : wholeOf s ≡ true) (g : 1 ≤ k) (h : k 
   stands =
       let e : 1 + (k - 1) ≡ k = omega arith in
       subst (λ (m : ℕ). isVersion m p ≡ true) e
-      (version-at (countOf (length s)) 1 (k - 1) s (whole-is s w .all) (omega arith))
+      (version-at (versionsIn (length s)) 1 (k - 1) s (whole-is s w .all) (omega arith))
 
   -- versions are 1, 2, 3 on without a gap
   pub numbered : field 4 4 p ≡ k
@@ -109,9 +109,9 @@ module _ (s : List ℕ) (k : ℕ) (w : wholeOf s ≡ true) (g : 1 ≤ k) (h : k 
 
 -- ---- one version more
 
-module _ (s : List ℕ) (x : Setting) (w : wholeOf s ≡ true) (room : countOf (length s) < 64) (held : Held x) (allow : refusalOf x ≡ 0) where
+module _ (s : List ℕ) (x : Setting) (w : areWhole s ≡ true) (room : versionsIn (length s) < 64) (held : Held x) (allow : refusalOf x ≡ 0) where
   abbrev n : ℕ
-  n = countOf (length s)
+  n = versionsIn (length s)
 
   abbrev v : List ℕ
   v = versionBytes (n + 1) x
@@ -122,7 +122,7 @@ module _ (s : List ℕ) (x : Setting) (w : wholeOf s ≡ true) (room : countOf (
   longer-size : length longer ≡ 44 * (n + 1)
   longer-size = length-append s v ∙ omega (arith, version-length (n + 1) x, whole-is s w .size)
 
-  longer-count : countOf (length longer) ≡ n + 1
+  longer-count : versionsIn (length longer) ≡ n + 1
   longer-count = omega (arith, longer-size)
 
   last : drop (44 * n) longer ≡ v
@@ -132,7 +132,7 @@ module _ (s : List ℕ) (x : Setting) (w : wholeOf s ≡ true) (room : countOf (
   last-stands =
       ap (isVersion (n + 1)) (last ∙ sym (append-nil v)) ∙ is-version-back (n + 1) x [] held allow (omega arith)
 
-  pub longer-whole : wholeOf longer ≡ true
+  pub longer-whole : areWhole longer ≡ true
   longer-whole =
       let e : suc n ≡ n + 1 = omega arith in
       let f : n + 1 ≡ 1 + n = omega arith in

@@ -17,17 +17,17 @@ use Rattle.settings.specs.declared.allowed.Setting.{Setting}
 use Rattle.settings.specs.Allowed.{refusalOf}
 
 -- the setting in the bytes of a version
-abbrev pub numberAt : ℕ → List ℕ → Float
-numberAt o s = bits (field o 8 s)
+abbrev pub constantAt : ℕ → List ℕ → Float
+constantAt o s = bits (field o 8 s)
 
 abbrev pub settingAt : List ℕ → Setting
 settingAt s =
     record {
       body = field 8 1 s;
-      mu = numberAt 12 s;
-      radius = numberAt 20 s;
-      closed = numberAt 28 s;
-      fair = numberAt 36 s;
+      mu = constantAt 12 s;
+      radius = constantAt 20 s;
+      closed = constantAt 28 s;
+      fair = constantAt 36 s;
     }
 
 -- an allowed version k stands at the front of s
@@ -42,17 +42,17 @@ versionsFrom zero k s = true
 versionsFrom (suc n) k s = isVersion k s && versionsFrom n (suc k) (drop 44 s)
 
 -- how many versions so many bytes are
-abbrev pub countOf : ℕ → ℕ
-countOf used = used / 44
+abbrev pub versionsIn : ℕ → ℕ
+versionsIn used = used / 44
 
 -- at most 64 whole, allowed versions 1, 2, 3 on
-abbrev pub wholeOf : List ℕ → Bool
-wholeOf s =
-    eqb (length s % 44) 0 && leb (countOf (length s)) 64 && versionsFrom (countOf (length s)) 1 s
+abbrev pub areWhole : List ℕ → Bool
+areWhole s =
+    eqb (length s % 44) 0 && leb (versionsIn (length s)) 64 && versionsFrom (versionsIn (length s)) 1 s
 
 -- the bytes of a setting as version k
-abbrev pub headPieces : ℕ → ℕ → List (List ℕ)
-headPieces k body = bytesLe 2 44 ∷ bytesLe 2 5 ∷ bytesLe 4 k ∷ bytesLe 1 body ∷ bytesLe 3 0 ∷ []
+abbrev pub headFields : ℕ → ℕ → List (List ℕ)
+headFields k body = bytesLe 2 44 ∷ bytesLe 2 5 ∷ bytesLe 4 k ∷ bytesLe 1 body ∷ bytesLe 3 0 ∷ []
 
 abbrev pub eight : Float → List ℕ
 eight x = bytesLe 8 (toBits binary64 x)
@@ -60,11 +60,11 @@ eight x = bytesLe 8 (toBits binary64 x)
 abbrev pub numberPieces : Setting → List (List ℕ)
 numberPieces x = eight (x .mu) ∷ eight (x .radius) ∷ eight (x .closed) ∷ eight (x .fair) ∷ []
 
-abbrev pub versionPieces : ℕ → Setting → List (List ℕ)
-versionPieces k x = headPieces k (x .body) ++ numberPieces x
+abbrev pub versionFields : ℕ → Setting → List (List ℕ)
+versionFields k x = headFields k (x .body) ++ numberPieces x
 
 abbrev pub versionBytes : ℕ → Setting → List ℕ
-versionBytes k x = concat (versionPieces k x)
+versionBytes k x = concat (versionFields k x)
 
 -- a setting as memory holds it: numbers of binary64
 abbrev pub Held : Setting → Type 0

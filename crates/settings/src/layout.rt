@@ -3,7 +3,7 @@ ghost use Prim.Native.Nat.{_+_, _*_, _≤_};
 ghost use mathlib.Core.Path.{_≡_};
 ghost use lib.ListN.{length};
 ghost use Rattle.text.specs.Pieces.{Laid};
-ghost use Rattle.settings.specs.Layout.{settingAt, isVersion, versionsFrom, wholeOf, headPieces, numberPieces, versionPieces};
+ghost use Rattle.settings.specs.Layout.{settingAt, isVersion, versionsFrom, areWhole, headFields, numberPieces, versionFields};
 use crate::allowed::Setting;
 use crate::allowed::refusal_of;
 use field::float;
@@ -66,7 +66,7 @@ fn are_versions(n: usize, s: &[u8]) -> bool
 
 // Whether s is at most 64 whole, allowed versions 1, 2, 3 on, and nothing else.
 pub fn is_whole(s: &[u8]) -> bool
-    ensures { λ r. ⌜ r ≡ wholeOf (now (s .entry)) ⌝ }
+    ensures { λ r. ⌜ r ≡ areWhole (now (s .entry)) ⌝ }
 {
     if s.len() % 44 != 0 {
         return false;
@@ -80,7 +80,7 @@ pub fn is_whole(s: &[u8]) -> bool
 
 // The header: length, kind, number, body, zero.
 fn put_head(buf: &mut [u8], at: usize, k: u64, body: u64) -> usize
-    ensures { λ r. ⌜ Laid (now (buf .entry)) at (headPieces k body) (now (buf .exit)) r ⌝ }
+    ensures { λ r. ⌜ Laid (now (buf .entry)) at (headFields k body) (now (buf .exit)) r ⌝ }
 {
     let a = put(buf, at, 44, 2);
     let b = put(buf, a, 5, 2);
@@ -100,7 +100,7 @@ fn put_numbers(buf: &mut [u8], at: usize, x: Setting) -> usize
 
 // A setting as version k.
 pub fn put_version(buf: &mut [u8], at: usize, k: u64, x: Setting) -> usize
-    ensures { λ r. ⌜ Laid (now (buf .entry)) at (versionPieces k x) (now (buf .exit)) r ⌝ }
+    ensures { λ r. ⌜ Laid (now (buf .entry)) at (versionFields k x) (now (buf .exit)) r ⌝ }
 {
     let a = put_head(buf, at, k, x.body);
     put_numbers(buf, a, x)

@@ -7,7 +7,7 @@ pub use allowed::Setting;
 pub use allowed::refusal_of;
 ghost use mathlib.Core.Path.{_≡_};
 ghost use lib.ListN.{take};
-ghost use Rattle.settings.specs.History.{lookUp, versionIn, nextOf, storedOf, backOf, after};
+ghost use Rattle.settings.specs.History.{lookUp, versionIn, nextOf, storedOf, backOf, bufferAfter};
 use layout::is_whole;
 use layout::put_version;
 use layout::setting_of;
@@ -43,7 +43,7 @@ pub fn look_up(s: &[u8], k: u64) -> Looked
 
 // The setting as the next version, behind the used bytes.
 fn put_next(buf: &mut [u8], used: usize, x: Setting) -> Stored
-    ensures { λ r. ⌜ (r ≡ nextOf (now (buf .entry)) used) × (now (buf .exit) ≡ after r (now (buf .entry)) used x) ⌝ }
+    ensures { λ r. ⌜ (r ≡ nextOf (now (buf .entry)) used) × (now (buf .exit) ≡ bufferAfter r (now (buf .entry)) used x) ⌝ }
 {
     let n = used / 44;
     if n >= 64 {
@@ -60,7 +60,7 @@ fn put_next(buf: &mut [u8], used: usize, x: Setting) -> Stored
 
 // Stores a setting as the next version.
 pub fn store(buf: &mut [u8], used: usize, x: Setting) -> Stored
-    ensures { λ r. ⌜ (r ≡ storedOf (now (buf .entry)) used x) × (now (buf .exit) ≡ after r (now (buf .entry)) used x) ⌝ }
+    ensures { λ r. ⌜ (r ≡ storedOf (now (buf .entry)) used x) × (now (buf .exit) ≡ bufferAfter r (now (buf .entry)) used x) ⌝ }
 {
     if used > buf.len() {
         return Stored::Refused(30);
@@ -77,7 +77,7 @@ pub fn store(buf: &mut [u8], used: usize, x: Setting) -> Stored
 
 // Stores a copy of version k as the next version.
 pub fn go_back(buf: &mut [u8], used: usize, k: u64) -> Stored
-    ensures { λ r. ⌜ (r ≡ backOf (now (buf .entry)) used k) × (now (buf .exit) ≡ after r (now (buf .entry)) used (versionIn (take used (now (buf .entry))) k)) ⌝ }
+    ensures { λ r. ⌜ (r ≡ backOf (now (buf .entry)) used k) × (now (buf .exit) ≡ bufferAfter r (now (buf .entry)) used (versionIn (take used (now (buf .entry))) k)) ⌝ }
 {
     if used > buf.len() {
         return Stored::Refused(30);

@@ -28,7 +28,7 @@ use Rattle.sight.specs.declared.Line.{Line}
 use Rattle.sight.specs.declared.Points.{Points}
 use Rattle.sight.specs.declared.Sight.{Sight}
 use Rattle.sight.specs.declared.Sight.the-variants.{Crossed, Refused}
-use Rattle.sight.specs.Sight.{elevatedOf, pointOf, inputTests, radicandRow, pointsOf, sightLine, sightTests, answered, sightOf}
+use Rattle.sight.specs.Sight.{elevatedOf, sightPoint, inputTests, radicandRow, pointsOf, sightLine, sightTests, answered, sightOf}
 use Rattle.sight.proofs.Laws.{within-turn}
 use Rattle.sight.proofs.Larger.{larger-first}
 use Rattle.sight.proofs.Sizes.{Held, mul-at, add-at, sub-at, under-2^29, root-most, Each, unit-components, scaled-each, sum-each, dot-within}
@@ -113,7 +113,7 @@ module _ (a p : Vector) (e : ℕ) (h v : Vector) (A : Each a 536870912) (P : Eac
       (mul-at (line .b) (line .b) 17179869184 17179869184 held-68 b-within b-within)
       (wider d 1729382256910270464 295147905179352825856 (lit≤ tt) s)
 
-  point-each : (k : Float) → Within k 51539607553 → Each (pointOf a k u) 309774516230
+  point-each : (k : Float) → Within k 51539607553 → Each (sightPoint a k u) 309774516230
   point-each k w =
       sum-each _ _ 536870912 309237645318 (small 309774516230 (lit≤ tt)) A
       (scaled-each k u 51539607553 6 (small 309237645318 (lit≤ tt)) w u-each)
@@ -129,8 +129,8 @@ module _ (a p : Vector) (e : ℕ) (h v : Vector) (A : Each a 536870912) (P : Eac
       record {
         larger = within-finite (neg-b ⊕ root) 51539607553 l;
         smaller = within-finite (neg-b ⊖ root) 51539607553 s;
-        first = each-finite (pointOf a (neg-b ⊕ root) u) 309774516230 (point-each (neg-b ⊕ root) l);
-        second = each-finite (pointOf a (neg-b ⊖ root) u) 309774516230 (point-each (neg-b ⊖ root) s);
+        first = each-finite (sightPoint a (neg-b ⊕ root) u) 309774516230 (point-each (neg-b ⊕ root) l);
+        second = each-finite (sightPoint a (neg-b ⊖ root) u) 309774516230 (point-each (neg-b ⊖ root) s);
         ordered = larger-first neg-b root (within-finite neg-b 17179869184 n) (within-finite root 34359738369 r) (root-not-below (line .radicand));
       }
 

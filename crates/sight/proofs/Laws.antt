@@ -23,14 +23,14 @@ use Rattle.table.specs.Tests as Tests
 use Rattle.table.specs.Tests.{_▷_, firstFailing, allMeet, firstRow}
 use Rattle.table.proofs.Laws.{first-failing, then, all-met, first-row, met-at}
 use Rattle.wheel.specs.Wheel.{directionOf, wheelOf}
-use Rattle.wheel.specs.declared.Elevation.the-variants.{At}
+use Rattle.wheel.specs.declared.Elevation.the-variants.{Angle}
 use Rattle.sight.specs.declared.Line.{Line}
-use Rattle.sight.specs.Sight.{inputTests, radicandRow, sightLine, sightTests, answered, sightOf, numberOf}
+use Rattle.sight.specs.Sight.{inputTests, radicandRow, sightLine, sightTests, answered, sightOf, sightNumber}
 
 -- ---- the table
 
-answered-number : (t : Test) (a : Vector) (l : Line) → numberOf (answered t a l) ≡ Tests.numberOf t
-unfolding answered numberOf Tests.numberOf
+answered-number : (t : Test) (a : Vector) (l : Line) → sightNumber (answered t a l) ≡ Tests.testNumber t
+unfolding answered sightNumber Tests.testNumber
 answered-number Passed a l = refl
 answered-number (Failed f) a l = refl
 
@@ -38,7 +38,7 @@ answered-number (Failed f) a l = refl
 abbrev pub sightOrder : List ℕ
 sightOrder = 1 ∷ 3 ∷ 16 ∷ 17 ∷ 18 ∷ []
 
-pub sight-table : (a p : Vector) (e : ℕ) (h v : Vector) → numberOf (sightOf a p e h v) ≡ firstRow sightOrder (sightTests a p e h v)
+pub sight-table : (a p : Vector) (e : ℕ) (h v : Vector) → sightNumber (sightOf a p e h v) ≡ firstRow sightOrder (sightTests a p e h v)
 sight-table a p e h v = answered-number (firstFailing (sightTests a p e h v)) a (sightLine a p e h v) ∙ first-row sightOrder (sightTests a p e h v) refl
 
 -- ---- row 16
@@ -103,6 +103,6 @@ module _ (a p : Vector) (e : ℕ) (h v : Vector) (t : Test) (told : t ≡ Passed
       ∙ sym (then Passed (inputTests a p e h v) (radicandRow (sightLine a p e h v)))
       ∙ ap (λ (x : Test). x ▷ radicandRow (sightLine a p e h v)) (sym told)
 
-  pub wheel-told : t ≡ Passed → wheelOf e ≡ At (directionOf e)
+  pub wheel-told : t ≡ Passed → wheelOf e ≡ Angle (directionOf e)
   unfolding wheelOf
   wheel-told q = rw (lt-ltb e 3600 (within-turn a p e h v (all-met (inputTests a p e h v) (sym (first-failing (inputTests a p e h v)) ∙ sym told ∙ q))))

@@ -32,8 +32,8 @@ abbrev pub lineOf : Vector → Vector → Vector → Line
 lineOf a p u = let b = dotOf a u in record { u = u; b = b; radicand = b ⊗ b ⊖ (dotOf a a ⊖ dotOf p p) }
 
 -- A + k·u
-abbrev pub pointOf : Vector → Float → Vector → Vector
-pointOf a k u = sumOf a (scaledOf k u)
+abbrev pub sightPoint : Vector → Float → Vector → Vector
+sightPoint a k u = sumOf a (scaledOf k u)
 
 -- 1: an input number is infinite or not a number, the positions and then the axes
 abbrev pub finiteRow : Vector → Vector → Vector → Vector → List Entry
@@ -64,7 +64,7 @@ pointsOf a l =
     let root = rootOf (l .radicand) in
     let larger = neg (l .b) ⊕ root in
     let smaller = neg (l .b) ⊖ root in
-    record { larger = larger; smaller = smaller; first = pointOf a larger (l .u); second = pointOf a smaller (l .u) }
+    record { larger = larger; smaller = smaller; first = sightPoint a larger (l .u); second = sightPoint a smaller (l .u) }
 
 unfoldable pub answered : Test → Vector → Line → Sight
 answered Passed a l = Crossed (pointsOf a l)
@@ -81,6 +81,6 @@ abbrev pub sightOf : Vector → Vector → ℕ → Vector → Vector → Sight
 sightOf a p e h v = answered (firstFailing (sightTests a p e h v)) a (sightLine a p e h v)
 
 -- the refusal's number, and 0 for an answer
-unfoldable pub numberOf : Sight → ℕ
-numberOf (Crossed x) = 0
-numberOf (Refused n) = n
+unfoldable pub sightNumber : Sight → ℕ
+sightNumber (Crossed x) = 0
+sightNumber (Refused n) = n

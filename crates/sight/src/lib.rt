@@ -8,7 +8,7 @@ use wheel::Elevation;
 ghost use mathlib.Core.Path.{_≡_};
 ghost use Rattle.table.specs.declared.Test.the-variants.{Passed};
 ghost use Rattle.table.specs.Tests.{_▷_};
-ghost use Rattle.sight.specs.Sight.{elevatedOf, lineOf, pointOf, pointsOf, finiteRow, positionRows, wheelRow, unitRow, inputTests, radicandRow, answered, sightOf};
+ghost use Rattle.sight.specs.Sight.{elevatedOf, lineOf, sightPoint, pointsOf, finiteRow, positionRows, wheelRow, unitRow, inputTests, radicandRow, answered, sightOf};
 
 // The sight line's unit vector u, b = A·u, and what stands under the root.
 struct Line {
@@ -48,7 +48,7 @@ fn line_of(a: Vector, p: Vector, u: Vector) -> Line
 
 // A + k·u.
 fn point(a: Vector, k: f64, u: Vector) -> Vector
-    ensures { λ r. ⌜ r ≡ pointOf a k u ⌝ }
+    ensures { λ r. ⌜ r ≡ sightPoint a k u ⌝ }
 {
     vector::sum(a, vector::scaled(k, u))
 }
@@ -140,7 +140,7 @@ pub fn crossings(a: Vector, p: Vector, e: u64, h: Vector, v: Vector) -> Sight
     match input_tests(a, p, e, h, v) {
         Test::Failed(f) => Sight::Refused(f.number),
         Test::Passed => match wheel::wheel(e) {
-            Elevation::At(d) => crossed(a, line_of(a, p, elevated(d, h, v))),
+            Elevation::Angle(d) => crossed(a, line_of(a, p, elevated(d, h, v))),
             Elevation::Refused(no) => Sight::Refused(no),
         },
     }

@@ -16,13 +16,13 @@ use Rattle.iterator.specs.declared.Bracket.{Bracket}
 use Rattle.iterator.specs.declared.Beginning.{Beginning}
 use Rattle.kepler.specs.declared.Motion.{Motion}
 use Rattle.kepler.specs.declared.Arrival.{Arrival}
-use Rattle.kepler.specs.declared.Arrival.the-variants.{At, Out}
+use Rattle.kepler.specs.declared.Arrival.the-variants.{InRange, OutOfRange}
 use Rattle.kepler.specs.Kepler.{turnedOf, arrivalOf}
 use Rattle.lambert.specs.declared.Way.{Way}
 use Rattle.lambert.specs.declared.Transfer.{Transfer}
-use Rattle.lambert.specs.Lambert.{transferOf, velocityOf, resultRow}
+use Rattle.lambert.specs.Lambert.{transferOf, velocityAt, resultRow}
 use Rattle.solve.specs.Ends.{motionFor, turnsFor, keplerEnded, lambertEnded}
-use Rattle.solve.specs.Answers.{standardFractions, gradeOf, endingBy, endingOf, concludedOf, foundAs, arrivedAs, advancedEnd, advanceTo, movedBy, movedAs, transferredEnd, transferVelocityTo}
+use Rattle.solve.specs.Answers.{standardFractions, gradeOf, outcomeBy, outcomeAt, concludedOf, advancedAt, advancedAs, advancedEnd, advanceTo, transferredAt, transferredAs, transferredEnd, transferVelocityTo}
 use Rattle.solve.specs.declared.Ended.{Ended}
 use Rattle.solve.specs.declared.Ended.the-variants as E
 use Rattle.solve.specs.declared.Solution.{Solution}
@@ -56,8 +56,8 @@ OwnTransferred size Tr.TooShort = Prim.Unit
 OwnTransferred size (Tr.NotFinished b) = Prim.Unit
 OwnTransferred size (Tr.Refused n) = Prim.Unit
 
-ending-own : (size asked : Float) (s : Bracket) (a b : Judgement) → OwnOutcome size (endingBy size asked s a b)
-unfolding endingBy
+ending-own : (size asked : Float) (s : Bracket) (a b : Judgement) → OwnOutcome size (outcomeBy size asked s a b)
+unfolding outcomeBy
 ending-own size asked s (Low t) (High u) = refl
 ending-own size asked s (Low t) (Low u) = tt
 ending-own size asked s (Low t) Under = tt
@@ -70,27 +70,27 @@ concluded-own : (size asked : Float) (s : Bracket) → OwnOutcome size (conclude
 unfolding concludedOf
 concluded-own size asked s = go (more s)
   where
-    go : (t : Bool) → OwnOutcome size (cond t (O.NotFinished s) (endingOf size asked s))
+    go : (t : Bool) → OwnOutcome size (cond t (O.NotFinished s) (outcomeAt size asked s))
     go true = tt
     go false = ending-own size asked s (s .below) (s .above)
 
-found-own : (t size : Float) (w : ℕ) (x : Solution) (r : Arrival) → Own size x → OwnAdvanced size (foundAs t w x r)
-unfolding foundAs
-found-own t size w x (At s) e = e
-found-own t size w x (Out f) e = tt
+found-own : (t size : Float) (w : ℕ) (x : Solution) (r : Arrival) → Own size x → OwnAdvanced size (advancedAt t w x r)
+unfolding advancedAt
+found-own t size w x (InRange s) e = e
+found-own t size w x (OutOfRange f) e = tt
 
-arrived-own : (m : Motion) (from : State) (t size : Float) (w : ℕ) (o : Outcome) → OwnOutcome size o → OwnAdvanced size (arrivedAs m from t w o)
-unfolding arrivedAs
+arrived-own : (m : Motion) (from : State) (t size : Float) (w : ℕ) (o : Outcome) → OwnOutcome size o → OwnAdvanced size (advancedAs m from t w o)
+unfolding advancedAs
 arrived-own m from t size w (O.Met x) e = found-own t size w x (arrivalOf m from (x .n)) e
 arrived-own m from t size w O.TooLong e = tt
 arrived-own m from t size w O.TooShort e = tt
 arrived-own m from t size w (O.NotFinished b) e = tt
 
-moved-own : (d : Transfer) (size : Float) (o : Outcome) → OwnOutcome size o → OwnTransferred size (movedAs d o)
-unfolding movedAs movedBy
-moved-own d size (O.Met x) e = go (firstFailing (resultRow (velocityOf d (x .n))))
+moved-own : (d : Transfer) (size : Float) (o : Outcome) → OwnOutcome size o → OwnTransferred size (transferredAs d o)
+unfolding transferredAs transferredAt
+moved-own d size (O.Met x) e = go (firstFailing (resultRow (velocityAt d (x .n))))
   where
-    go : (p : Test) → OwnTransferred size (movedBy p (velocityOf d (x .n)) x)
+    go : (p : Test) → OwnTransferred size (transferredAt p (velocityAt d (x .n)) x)
     go Passed = e
     go (Failed f) = tt
 moved-own d size O.TooLong e = tt

@@ -8,25 +8,25 @@ use Rattle.vector.specs.declared.Vector.{Vector}
 use Rattle.vector.specs.declared.State.{State}
 use Rattle.table.specs.declared.Test.{Test}
 use Rattle.table.specs.declared.Test.the-variants.{Passed, Failed}
-use Rattle.table.specs.Tests.{firstFailing, numberOf}
+use Rattle.table.specs.Tests.{firstFailing, testNumber}
 use Rattle.iterator.specs.Run.{more}
 use Rattle.iterator.specs.declared.Judgement.{Judgement}
 use Rattle.iterator.specs.declared.Judgement.the-variants.{Low, High, Under, Over}
 use Rattle.iterator.specs.declared.Bracket.{Bracket}
 use Rattle.kepler.specs.declared.Motion.{Motion}
 use Rattle.kepler.specs.declared.Arrival.{Arrival}
-use Rattle.kepler.specs.declared.Arrival.the-variants.{At, Out}
+use Rattle.kepler.specs.declared.Arrival.the-variants.{InRange, OutOfRange}
 use Rattle.kepler.specs.Kepler.{turnsOf, arrivalOf}
 use Rattle.lambert.specs.declared.Transfer.{Transfer}
-use Rattle.lambert.specs.Lambert.{velocityOf, resultRow}
-use Rattle.solve.specs.Answers.{solutionOf, endingBy, endingOf, concludedOf, foundAs, arrivedAs, advancedEnd, movedBy, movedAs, transferredEnd, advancedNumber, transferredNumber}
+use Rattle.lambert.specs.Lambert.{velocityAt, resultRow}
+use Rattle.solve.specs.Answers.{solutionOf, outcomeBy, outcomeAt, concludedOf, advancedAt, advancedAs, advancedEnd, transferredAt, transferredAs, transferredEnd, advancedNumber, transferredNumber}
 use Rattle.solve.specs.declared.Solution.{Solution}
 use Rattle.solve.specs.declared.Outcome.the-variants as O
 use Rattle.solve.specs.declared.Ended.the-variants as E
 
 abbrev pub arrivalNumber : Arrival → ℕ
-arrivalNumber (At s) = 0
-arrivalNumber (Out e) = e .number
+arrivalNumber (InRange s) = 0
+arrivalNumber (OutOfRange e) = e .number
 
 abbrev pub endNumber : ℕ → ℕ → Judgement → Judgement → ℕ
 endNumber short nine (Low t) (High u) = nine
@@ -37,13 +37,13 @@ endNumber short nine (High t) above = short
 endNumber short nine Under above = short
 endNumber short nine Over above = short
 
-found : (t : Float) (w : ℕ) (x : Solution) (r : Arrival) → advancedNumber (foundAs t w x r) ≡ arrivalNumber r
-unfolding advancedNumber foundAs
-found t w x (At s) = refl
-found t w x (Out e) = refl
+found : (t : Float) (w : ℕ) (x : Solution) (r : Arrival) → advancedNumber (advancedAt t w x r) ≡ arrivalNumber r
+unfolding advancedNumber advancedAt
+found t w x (InRange s) = refl
+found t w x (OutOfRange e) = refl
 
-moved : (r : Test) (v : Vector) (x : Solution) → transferredNumber (movedBy r v x) ≡ numberOf r
-unfolding transferredNumber movedBy numberOf
+moved : (r : Test) (v : Vector) (x : Solution) → transferredNumber (transferredAt r v x) ≡ testNumber r
+unfolding transferredNumber transferredAt testNumber
 moved Passed v x = refl
 moved (Failed e) v x = refl
 
@@ -51,8 +51,8 @@ module _ (m : Motion) (from : State) (t size asked : Float) (w : ℕ) (b : Brack
   abbrev nine : ℕ
   nine = arrivalNumber (arrivalOf m from (b .lo))
 
-  advance-ends : (p q : Judgement) → advancedNumber (arrivedAs m from t w (endingBy size asked b p q)) ≡ endNumber 7 nine p q
-  unfolding advancedNumber arrivedAs endingBy
+  advance-ends : (p q : Judgement) → advancedNumber (advancedAs m from t w (outcomeBy size asked b p q)) ≡ endNumber 7 nine p q
+  unfolding advancedNumber advancedAs outcomeBy
   advance-ends (Low t') (High u) = found t w (solutionOf size asked b t') (arrivalOf m from (b .lo))
   advance-ends (Low t') (Low u) = refl
   advance-ends (Low t') Under = refl
@@ -61,11 +61,11 @@ module _ (m : Motion) (from : State) (t size asked : Float) (w : ℕ) (b : Brack
   advance-ends Under q = refl
   advance-ends Over q = refl
 
-  advance-concluded : advancedNumber (arrivedAs m from t w (concludedOf size asked b)) ≡ cond (more b) 29 (endNumber 7 nine (b .below) (b .above))
-  unfolding advancedNumber arrivedAs concludedOf
+  advance-concluded : advancedNumber (advancedAs m from t w (concludedOf size asked b)) ≡ cond (more b) 29 (endNumber 7 nine (b .below) (b .above))
+  unfolding advancedNumber advancedAs concludedOf
   advance-concluded = go (more b)
     where
-      go : (k : Bool) → advancedNumber (arrivedAs m from t w (cond k (O.NotFinished b) (endingOf size asked b))) ≡ cond k 29 (endNumber 7 (arrivalNumber (arrivalOf m from (b .lo))) (b .below) (b .above))
+      go : (k : Bool) → advancedNumber (advancedAs m from t w (cond k (O.NotFinished b) (outcomeAt size asked b))) ≡ cond k 29 (endNumber 7 (arrivalNumber (arrivalOf m from (b .lo))) (b .below) (b .above))
       go true = refl
       go false = advance-ends (b .below) (b .above)
 
@@ -75,9 +75,9 @@ unfolding advancedEnd
 advance-halts m from t size b = advance-concluded m from t size (turnsOf m size .rest) (turnsOf m size .turns) b
 
 module _ (d : Transfer) (asked : Float) (b : Bracket) where
-  transfer-ends : (p q : Judgement) → transferredNumber (movedAs d (endingBy asked asked b p q)) ≡ endNumber 8 (numberOf (firstFailing (resultRow (velocityOf d (b .lo))))) p q
-  unfolding transferredNumber movedAs endingBy
-  transfer-ends (Low t') (High u) = moved (firstFailing (resultRow (velocityOf d (b .lo)))) (velocityOf d (b .lo)) (solutionOf asked asked b t')
+  transfer-ends : (p q : Judgement) → transferredNumber (transferredAs d (outcomeBy asked asked b p q)) ≡ endNumber 8 (testNumber (firstFailing (resultRow (velocityAt d (b .lo))))) p q
+  unfolding transferredNumber transferredAs outcomeBy
+  transfer-ends (Low t') (High u) = moved (firstFailing (resultRow (velocityAt d (b .lo)))) (velocityAt d (b .lo)) (solutionOf asked asked b t')
   transfer-ends (Low t') (Low u) = refl
   transfer-ends (Low t') Under = refl
   transfer-ends (Low t') Over = refl
@@ -85,10 +85,10 @@ module _ (d : Transfer) (asked : Float) (b : Bracket) where
   transfer-ends Under q = refl
   transfer-ends Over q = refl
 
-  pub transfer-halts : transferredNumber (transferredEnd (E.At b) d asked) ≡ cond (more b) 29 (endNumber 8 (numberOf (firstFailing (resultRow (velocityOf d (b .lo))))) (b .below) (b .above))
-  unfolding transferredEnd transferredNumber movedAs concludedOf
+  pub transfer-halts : transferredNumber (transferredEnd (E.At b) d asked) ≡ cond (more b) 29 (endNumber 8 (testNumber (firstFailing (resultRow (velocityAt d (b .lo))))) (b .below) (b .above))
+  unfolding transferredEnd transferredNumber transferredAs concludedOf
   transfer-halts = go (more b)
     where
-      go : (k : Bool) → transferredNumber (movedAs d (cond k (O.NotFinished b) (endingOf asked asked b))) ≡ cond k 29 (endNumber 8 (numberOf (firstFailing (resultRow (velocityOf d (b .lo))))) (b .below) (b .above))
+      go : (k : Bool) → transferredNumber (transferredAs d (cond k (O.NotFinished b) (outcomeAt asked asked b))) ≡ cond k 29 (endNumber 8 (testNumber (firstFailing (resultRow (velocityAt d (b .lo))))) (b .below) (b .above))
       go true = refl
       go false = transfer-ends (b .below) (b .above)

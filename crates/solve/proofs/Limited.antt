@@ -19,7 +19,7 @@ use Rattle.iterator.specs.declared.Judgement.the-variants.{Low, High, Under, Ov
 use Rattle.problem.specs.Problems.{judgeOf, startOf, lastOf, stoppedOf, mostOf}
 use Rattle.problem.specs.declared.Problem.{Problem}
 use Rattle.problem.specs.declared.Problem.the-variants.{Kepler, Lambert}
-use Rattle.solve.specs.Answers.{endingBy, endingOf, outcomeOf, concludedOf, outcomeTo}
+use Rattle.solve.specs.Answers.{outcomeBy, outcomeAt, outcomeOf, concludedOf, outcomeTo}
 use Rattle.solve.specs.declared.Outcome.the-variants as O
 
 -- ---- the trials
@@ -32,13 +32,13 @@ pub last-done : (problem : Problem) (asked : Float) → more (lastOf problem ask
 last-done (Kepler m) asked = le-ltb 1 _ (run-ends (judgeOf (Kepler m) asked) asked (startOf (Kepler m)) (ltZ-yes tt))
 last-done (Lambert d) asked = le-ltb 1 _ (run-ends (judgeOf (Lambert d) asked) asked (startOf (Lambert d)) (ltZ-yes tt))
 
-pub concluded : (size asked : Float) (s : Bracket) → more s ≡ false → concludedOf size asked s ≡ endingOf size asked s
+pub concluded : (size asked : Float) (s : Bracket) → more s ≡ false → concludedOf size asked s ≡ outcomeAt size asked s
 unfolding concludedOf
-concluded size asked s e = ap (λ (b : Bool). cond b (O.NotFinished s) (endingOf size asked s)) e
+concluded size asked s e = ap (λ (b : Bool). cond b (O.NotFinished s) (outcomeAt size asked s)) e
 
 pub not-concluded : (size asked : Float) (s : Bracket) → more s ≡ true → concludedOf size asked s ≡ O.NotFinished s
 unfolding concludedOf
-not-concluded size asked s e = ap (λ (b : Bool). cond b (O.NotFinished s) (endingOf size asked s)) e
+not-concluded size asked s e = ap (λ (b : Bool). cond b (O.NotFinished s) (outcomeAt size asked s)) e
 
 -- from the start a limit of 74 and 52 or more is no limit
 pub outcome-free : (problem : Problem) (size asked : Float) (limit : ℕ) → mostOf problem ≤ limit → outcomeTo problem size asked limit (startOf problem) ≡ outcomeOf problem size asked
@@ -60,8 +60,8 @@ pub outcome-goes-on : (problem : Problem) (size asked : Float) (l n : ℕ) (s : 
 outcome-goes-on problem size asked l n s k = ap (concludedOf size asked) (goes-on (judgeOf problem asked) asked l n s k)
 
 -- what is handed out as not finished is where the limit stopped the trials
-pub no-ending : (size asked : Float) (s b : Bracket) (x y : Judgement) → endingBy size asked s x y ≡ O.NotFinished b → ⊥
-unfolding endingBy
+pub no-ending : (size asked : Float) (s b : Bracket) (x y : Judgement) → outcomeBy size asked s x y ≡ O.NotFinished b → ⊥
+unfolding outcomeBy
 no-ending size asked s b (Low t) (High u) e = let z : _≡_ {A = ℕ} 0 1 = cc in zero-one z
 no-ending size asked s b (Low t) (Low u) e = let z : _≡_ {A = ℕ} 0 1 = cc in zero-one z
 no-ending size asked s b (Low t) Under e = let z : _≡_ {A = ℕ} 0 1 = cc in zero-one z

@@ -20,13 +20,13 @@ use Rattle.table.proofs.Laws.{all-met, met-then}
 use Rattle.iterator.specs.declared.Bracket.{Bracket}
 use Rattle.kepler.specs.declared.Motion.{Motion}
 use Rattle.kepler.specs.declared.Arrival.{Arrival}
-use Rattle.kepler.specs.declared.Arrival.the-variants.{At, Out}
+use Rattle.kepler.specs.declared.Arrival.the-variants.{InRange, OutOfRange}
 use Rattle.kepler.specs.Kepler.{turnedOf, inputRow, rangeRows, fallRow, keplerTests, arrivalOf}
 use Rattle.problem.specs.Problems.{startOf, stoppedOf}
 use Rattle.problem.specs.declared.Problem.the-variants.{Kepler}
 use Rattle.solve.specs.Begun.{timesInput, keplerAhead, begunOf}
 use Rattle.solve.specs.Ends.{motionFor, turnsFor, endedFrom}
-use Rattle.solve.specs.Answers.{outcomeTo, foundAs, arrivedAs, advancedBy, advanceOf, advancedEnd, advanceTo, advancedNumber}
+use Rattle.solve.specs.Answers.{outcomeTo, advancedAt, advancedAs, advancedBy, advanceOf, advancedEnd, advanceTo, advancedNumber}
 use Rattle.solve.specs.declared.Solution.{Solution}
 use Rattle.solve.specs.declared.Outcome.{Outcome}
 use Rattle.solve.specs.declared.Outcome.the-variants as O
@@ -42,20 +42,20 @@ use Rattle.solve.proofs.Beginnings.{stopped-finite, stopped-begins}
 use Rattle.solve.proofs.Numbers.{arrives, nine, found-number}
 use Rattle.solve.proofs.Limited.{not-six, outcome-free, outcome-raised, outcome-goes-on, handed, never-stopped}
 
-no-found : (t : Float) (w : ℕ) (x : Solution) (r : Arrival) (b : Bracket) → foundAs t w x r ≡ Ad.NotFinished b → ⊥
-unfolding foundAs
-no-found t w x (At s) b e = let z : _≡_ {A = ℕ} 0 1 = cc in zero-one z
-no-found t w x (Out f) b e = let z : _≡_ {A = ℕ} 0 1 = cc in zero-one z
+no-found : (t : Float) (w : ℕ) (x : Solution) (r : Arrival) (b : Bracket) → advancedAt t w x r ≡ Ad.NotFinished b → ⊥
+unfolding advancedAt
+no-found t w x (InRange s) b e = let z : _≡_ {A = ℕ} 0 1 = cc in zero-one z
+no-found t w x (OutOfRange f) b e = let z : _≡_ {A = ℕ} 0 1 = cc in zero-one z
 
-arrived-at : (m : Motion) (from : State) (t : Float) (w : ℕ) (b : Bracket) (o : Outcome) → arrivedAs m from t w o ≡ Ad.NotFinished b → o ≡ O.NotFinished b
-unfolding arrivedAs
+arrived-at : (m : Motion) (from : State) (t : Float) (w : ℕ) (b : Bracket) (o : Outcome) → advancedAs m from t w o ≡ Ad.NotFinished b → o ≡ O.NotFinished b
+unfolding advancedAs
 arrived-at m from t w b (O.Met x) e = absurd (no-found t w x (arrivalOf m from (x .n)) b e)
 arrived-at m from t w b O.TooLong e = let z : _≡_ {A = ℕ} 0 1 = cc in absurd (zero-one z)
 arrived-at m from t w b O.TooShort e = let z : _≡_ {A = ℕ} 0 1 = cc in absurd (zero-one z)
 arrived-at m from t w b (O.NotFinished c) e = let i : c ≡ b = cc in ap O.NotFinished i
 
-arrived-not-six : (m : Motion) (from : State) (t : Float) (w : ℕ) (o : Outcome) → advancedNumber (arrivedAs m from t w o) ≡ 6 → ⊥
-unfolding advancedNumber arrivedAs
+arrived-not-six : (m : Motion) (from : State) (t : Float) (w : ℕ) (o : Outcome) → advancedNumber (advancedAs m from t w o) ≡ 6 → ⊥
+unfolding advancedNumber advancedAs
 arrived-not-six m from t w (O.Met x) e = not-six (arrives (arrivalOf m from (x .n))) (sym (found-number t w x (arrivalOf m from (x .n)) (nine m from (x .n))) ∙ e)
 arrived-not-six m from t w O.TooLong e = omega arith
 arrived-not-six m from t w O.TooShort e = omega arith
@@ -81,7 +81,7 @@ module _ (mu : Float) (s : State) (t : Float) where
   by p v q limit = advancedEnd (endedFrom p v q (Kepler m) rest limit) m (turnedOf t s) t (sizeOf t)
 
   abbrev ended : ℕ → Bracket → Advanced
-  ended limit b = arrivedAs m (turnedOf t s) t (turnsFor mu s t .turns) (outcomeTo (Kepler m) (sizeOf t) rest limit b)
+  ended limit b = advancedAs m (turnedOf t s) t (turnsFor mu s t .turns) (outcomeTo (Kepler m) (sizeOf t) rest limit b)
 
   abbrev whole : Test → Advanced
   whole p = advancedBy p m (turnedOf t s) t (sizeOf t)
@@ -95,7 +95,7 @@ module _ (mu : Float) (s : State) (t : Float) where
       go Passed (Failed f) e i =
           sym (ap whole (met-then (inputRow mu s t ++ rangeRows mu s t m) (fallRow mu s (m .orbit .r1)) (all-met (inputRow mu s t ++ rangeRows mu s t m) e) ∙ i))
       go Passed Passed e i =
-          ap (arrivedAs m (turnedOf t s) t (turnsFor mu s t .turns)) (outcome-free (Kepler m) (sizeOf t) rest limit k)
+          ap (advancedAs m (turnedOf t s) t (turnsFor mu s t .turns)) (outcome-free (Kepler m) (sizeOf t) rest limit k)
           ∙ sym (ap whole (kepler-whole mu s t m Start e i))
 
   -- so it is never 'not finished'
@@ -108,7 +108,7 @@ module _ (mu : Float) (s : State) (t : Float) where
       go (Failed f) e = let z : _≡_ {A = ℕ} 0 1 = cc in zero-one z
 
   pub advance-raised : (l n : ℕ) (g : Beginning) → l ≤ n → (advancedNumber (advanceTo mu s t l g) ≡ 29 → ⊥) → advanceTo mu s t n g ≡ advanceTo mu s t l g
-  unfolding advancedEnd endedFrom advancedNumber arrivedAs
+  unfolding advancedEnd endedFrom advancedNumber advancedAs
   advance-raised l n g k h = go (ahead g) (begunOf (Kepler m) rest g) fall h
     where
       go : (p : Test) (v : Begun) (q : Test) → (advancedNumber (by p v q l) ≡ 29 → ⊥) → by p v q n ≡ by p v q l
@@ -116,8 +116,8 @@ module _ (mu : Float) (s : State) (t : Float) where
       go Passed (B.Wrong a) q h = refl
       go Passed (B.At b) (Failed f) h = refl
       go Passed (B.At b) Passed h =
-          ap (arrivedAs m (turnedOf t s) t (turnsFor mu s t .turns))
-          (outcome-raised (Kepler m) (sizeOf t) rest l n b k (λ c e. h (ap (λ (o : Outcome). advancedNumber (arrivedAs m (turnedOf t s) t (turnsFor mu s t .turns) o)) e)))
+          ap (advancedAs m (turnedOf t s) t (turnsFor mu s t .turns))
+          (outcome-raised (Kepler m) (sizeOf t) rest l n b k (λ c e. h (ap (λ (o : Outcome). advancedNumber (advancedAs m (turnedOf t s) t (turnsFor mu s t .turns) o)) e)))
 
   -- what is finished from the start is the advance without a limit: demand 3 is read for it
   pub advance-finished : (l : ℕ) → (advancedNumber (advanceTo mu s t l Start) ≡ 29 → ⊥) → advanceTo mu s t l Start ≡ advanceOf mu s t
@@ -171,5 +171,5 @@ module _ (mu : Float) (s : State) (t : Float) where
       let h = handed-out l b e in
       advance-taken-up l n b e
       ∙ ap (ended n) (sym (h .stopped))
-      ∙ ap (arrivedAs m (turnedOf t s) t (turnsFor mu s t .turns)) (outcome-goes-on (Kepler m) (sizeOf t) rest l n start k)
+      ∙ ap (advancedAs m (turnedOf t s) t (turnsFor mu s t .turns)) (outcome-goes-on (Kepler m) (sizeOf t) rest l n start k)
       ∙ sym (ap (λ (p : Test). by p (B.At start) fall n) (h .tested) ∙ ap (λ (q : Test). by Passed (B.At start) q n) (h .falls))

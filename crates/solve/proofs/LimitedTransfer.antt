@@ -14,16 +14,16 @@ use Rattle.table.specs.declared.Test.the-variants.{Passed, Failed}
 use Rattle.table.specs.Tests.{firstFailing, allMeet, passes}
 use Rattle.table.proofs.Laws.{one-row}
 use Rattle.iterator.specs.declared.Bracket.{Bracket}
-use Rattle.kepler.specs.declared.Arrival.the-variants.{At}
+use Rattle.kepler.specs.declared.Arrival.the-variants.{InRange}
 use Rattle.lambert.specs.declared.Way.{Way}
 use Rattle.lambert.specs.declared.Transfer.{Transfer}
-use Rattle.lambert.specs.Lambert.{transferOf, lambertTests, velocityOf, resultRow}
+use Rattle.lambert.specs.Lambert.{transferOf, lambertTests, velocityAt, resultRow}
 use Rattle.problem.specs.Problems.{startOf, stoppedOf}
 use Rattle.problem.specs.declared.Problem.the-variants.{Lambert}
 use Rattle.solve.specs.Begun.{timesInput, lambertAhead, begunOf}
 use Rattle.solve.specs.Ends.{endedFrom}
 use Rattle.solve.specs.Answers.{outcomeTo}
-use Rattle.solve.specs.Answers.{movedBy, movedAs, transferredBy, transferVelocityOf, transferredEnd, transferVelocityTo, transferredNumber}
+use Rattle.solve.specs.Answers.{transferredAt, transferredAs, transferredBy, transferVelocityOf, transferredEnd, transferVelocityTo, transferredNumber}
 use Rattle.solve.specs.declared.Solution.{Solution}
 use Rattle.solve.specs.declared.Outcome.{Outcome}
 use Rattle.solve.specs.declared.Outcome.the-variants as O
@@ -39,23 +39,23 @@ use Rattle.solve.proofs.Beginnings.{stopped-finite, stopped-begins}
 use Rattle.solve.proofs.Numbers.{moved-number}
 use Rattle.solve.proofs.Limited.{not-six, outcome-free, outcome-raised, outcome-goes-on, handed, never-stopped}
 
-moved-by : (r : Test) (v : Vector) (x : Solution) (b : Bracket) → movedBy r v x ≡ Tr.NotFinished b → ⊥
-unfolding movedBy
+moved-by : (r : Test) (v : Vector) (x : Solution) (b : Bracket) → transferredAt r v x ≡ Tr.NotFinished b → ⊥
+unfolding transferredAt
 moved-by Passed v x b e = let z : _≡_ {A = ℕ} 0 1 = cc in zero-one z
 moved-by (Failed f) v x b e = let z : _≡_ {A = ℕ} 0 1 = cc in zero-one z
 
-moved-at : (d : Transfer) (b : Bracket) (o : Outcome) → movedAs d o ≡ Tr.NotFinished b → o ≡ O.NotFinished b
-unfolding movedAs
-moved-at d b (O.Met x) e = absurd (moved-by (firstFailing (resultRow (velocityOf d (x .n)))) (velocityOf d (x .n)) x b e)
+moved-at : (d : Transfer) (b : Bracket) (o : Outcome) → transferredAs d o ≡ Tr.NotFinished b → o ≡ O.NotFinished b
+unfolding transferredAs
+moved-at d b (O.Met x) e = absurd (moved-by (firstFailing (resultRow (velocityAt d (x .n)))) (velocityAt d (x .n)) x b e)
 moved-at d b O.TooLong e = let z : _≡_ {A = ℕ} 0 1 = cc in absurd (zero-one z)
 moved-at d b O.TooShort e = let z : _≡_ {A = ℕ} 0 1 = cc in absurd (zero-one z)
 moved-at d b (O.NotFinished c) e = let i : c ≡ b = cc in ap O.NotFinished i
 
-moved-not-six : (d : Transfer) (o : Outcome) → transferredNumber (movedAs d o) ≡ 6 → ⊥
-unfolding transferredNumber movedAs
+moved-not-six : (d : Transfer) (o : Outcome) → transferredNumber (transferredAs d o) ≡ 6 → ⊥
+unfolding transferredNumber transferredAs
 moved-not-six d (O.Met x) e =
-    let r = firstFailing (resultRow (velocityOf d (x .n))) in
-    not-six (passes r) (sym (moved-number (velocityOf d (x .n)) x r (one-row 9 (resultRow (velocityOf d (x .n))) refl)) ∙ e)
+    let r = firstFailing (resultRow (velocityAt d (x .n))) in
+    not-six (passes r) (sym (moved-number (velocityAt d (x .n)) x r (one-row 9 (resultRow (velocityAt d (x .n))) refl)) ∙ e)
 moved-not-six d O.TooLong e = omega arith
 moved-not-six d O.TooShort e = omega arith
 moved-not-six d (O.NotFinished c) e = omega arith
@@ -74,7 +74,7 @@ module _ (mu : Float) (first second : Vector) (way : Way) (t : Float) where
   by p v limit = transferredEnd (endedFrom p v Passed (Lambert d) t limit) d t
 
   abbrev ended : ℕ → Bracket → Transferred
-  ended limit b = movedAs d (outcomeTo (Lambert d) t t limit b)
+  ended limit b = transferredAs d (outcomeTo (Lambert d) t t limit b)
 
   pub transfer-free : (limit : ℕ) → 52 ≤ limit → transferVelocityTo mu first second way t limit Start ≡ transferVelocityOf mu first second way t
   unfolding transferredEnd endedFrom transferredBy begunOf
@@ -82,7 +82,7 @@ module _ (mu : Float) (first second : Vector) (way : Way) (t : Float) where
     where
       go : (p : Test) → by p (B.At start) limit ≡ transferredBy p d t
       go (Failed f) = refl
-      go Passed = ap (movedAs d) (outcome-free (Lambert d) t t limit k)
+      go Passed = ap (transferredAs d) (outcome-free (Lambert d) t t limit k)
 
   pub transfer-never : (limit : ℕ) (b : Bracket) → 52 ≤ limit → transferVelocityTo mu first second way t limit Start ≡ Tr.NotFinished b → ⊥
   unfolding transferredBy
@@ -94,13 +94,13 @@ module _ (mu : Float) (first second : Vector) (way : Way) (t : Float) where
 
   pub transfer-raised : (l n : ℕ) (g : Beginning) → l ≤ n → (transferredNumber (transferVelocityTo mu first second way t l g) ≡ 29 → ⊥)
       → transferVelocityTo mu first second way t n g ≡ transferVelocityTo mu first second way t l g
-  unfolding transferredEnd endedFrom transferredNumber movedAs
+  unfolding transferredEnd endedFrom transferredNumber transferredAs
   transfer-raised l n g k h = go (ahead g) (begunOf (Lambert d) t g) h
     where
       go : (p : Test) (v : Begun) → (transferredNumber (by p v l) ≡ 29 → ⊥) → by p v n ≡ by p v l
       go (Failed f) v h = refl
       go Passed (B.Wrong a) h = refl
-      go Passed (B.At b) h = ap (movedAs d) (outcome-raised (Lambert d) t t l n b k (λ c e. h (ap (λ (o : Outcome). transferredNumber (movedAs d o)) e)))
+      go Passed (B.At b) h = ap (transferredAs d) (outcome-raised (Lambert d) t t l n b k (λ c e. h (ap (λ (o : Outcome). transferredNumber (transferredAs d o)) e)))
 
   pub transfer-finished : (l : ℕ) → (transferredNumber (transferVelocityTo mu first second way t l Start) ≡ 29 → ⊥)
       → transferVelocityTo mu first second way t l Start ≡ transferVelocityOf mu first second way t
@@ -150,5 +150,5 @@ module _ (mu : Float) (first second : Vector) (way : Way) (t : Float) where
       let h = handed-out l b e in
       transfer-taken-up l n b e
       ∙ ap (ended n) (sym (h .stopped))
-      ∙ ap (movedAs d) (outcome-goes-on (Lambert d) t t l n start k)
+      ∙ ap (transferredAs d) (outcome-goes-on (Lambert d) t t l n start k)
       ∙ sym (ap (λ (p : Test). by p (B.At start) n) (h .tested))

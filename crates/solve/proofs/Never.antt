@@ -26,8 +26,8 @@ NotUnder Over = Prim.Unit
 
 trial-not-under : (asked : Float) (r : Trial) → NotUnder (judgedTrial asked r)
 unfolding judgedTrial judgedOf
-trial-not-under asked (Trial.Out e) = tt
-trial-not-under asked (Trial.At p) = go (inTime (p .t)) (p .t ≤ᶠ asked)
+trial-not-under asked (Trial.Stopped e) = tt
+trial-not-under asked (Trial.Numbers p) = go (inTime (p .t)) (p .t ≤ᶠ asked)
   where
     go : (a b : Bool) → NotUnder (cond a (cond b (Low (p .t)) (High (p .t))) Over)
     go true true = tt

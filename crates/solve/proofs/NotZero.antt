@@ -23,13 +23,13 @@ use Rattle.iterator.specs.declared.Beginning.{Beginning}
 use Rattle.iterator.specs.declared.Beginning.the-variants.{Start, Stopped}
 use Rattle.kepler.specs.declared.Motion.{Motion}
 use Rattle.kepler.specs.declared.Arrival.{Arrival}
-use Rattle.kepler.specs.declared.Arrival.the-variants.{At, Out}
+use Rattle.kepler.specs.declared.Arrival.the-variants.{InRange, OutOfRange}
 use Rattle.kepler.specs.Kepler.{turnedOf, keplerTests, fallRow, arrivalOf}
 use Rattle.kepler.specs.Kepler as K
 use Rattle.lambert.specs.declared.Way.{Way}
 use Rattle.lambert.specs.declared.Way.the-variants.{Short, Long, Normal}
 use Rattle.lambert.specs.declared.Transfer.{Transfer}
-use Rattle.lambert.specs.Lambert.{transferOf, lambertTests, velocityOf, resultRow}
+use Rattle.lambert.specs.Lambert.{transferOf, lambertTests, velocityAt, resultRow}
 use Rattle.lambert.specs.Lambert as L
 use Rattle.problem.specs.declared.Problem.{Problem}
 use Rattle.solve.specs.declared.Solution.{Solution}
@@ -45,7 +45,7 @@ use Rattle.solve.specs.declared.Transferred.{Transferred}
 use Rattle.solve.specs.declared.Transferred.the-variants as Tr
 use Rattle.solve.specs.Begun.{timeInput, timesInput, keplerAhead, lambertAhead}
 use Rattle.solve.specs.Ends.{motionFor, endedFrom, keplerEnded, lambertEnded}
-use Rattle.solve.specs.Answers.{foundAs, arrivedAs, advancedBy, advanceOf, advancedEnd, advanceTo, movedBy, movedAs, transferredBy, transferVelocityOf, transferredEnd, transferVelocityTo}
+use Rattle.solve.specs.Answers.{advancedAt, advancedAs, advancedBy, advanceOf, advancedEnd, advanceTo, transferredAt, transferredAs, transferredBy, transferVelocityOf, transferredEnd, transferVelocityTo}
 use Rattle.solve.proofs.Numbers.{Nine, nine}
 
 nine-zero : {n : ℕ} → n ≡ 9 → n ≡ 0 → ⊥
@@ -90,13 +90,13 @@ AdvancedNumbered Ad.TooLong = Prim.Unit
 AdvancedNumbered (Ad.NotFinished b) = Prim.Unit
 AdvancedNumbered (Ad.Refused n) = n ≡ 0 → ⊥
 
-found : (t : Float) (w : ℕ) (x : Solution) (r : Arrival) → Nine r → AdvancedNumbered (foundAs t w x r)
-unfolding foundAs
-found t w x (At s) h = tt
-found t w x (Out f) h = nine-zero h
+found : (t : Float) (w : ℕ) (x : Solution) (r : Arrival) → Nine r → AdvancedNumbered (advancedAt t w x r)
+unfolding advancedAt
+found t w x (InRange s) h = tt
+found t w x (OutOfRange f) h = nine-zero h
 
-arrived : (m : Motion) (from : State) (t : Float) (w : ℕ) (o : Outcome) → AdvancedNumbered (arrivedAs m from t w o)
-unfolding arrivedAs
+arrived : (m : Motion) (from : State) (t : Float) (w : ℕ) (o : Outcome) → AdvancedNumbered (advancedAs m from t w o)
+unfolding advancedAs
 arrived m from t w (O.Met x) = found t w x (arrivalOf m from (x .n)) (nine m from (x .n))
 arrived m from t w O.TooLong = tt
 arrived m from t w O.TooShort = tt
@@ -137,11 +137,11 @@ TransferredNumbered Tr.TooShort = Prim.Unit
 TransferredNumbered (Tr.NotFinished b) = Prim.Unit
 TransferredNumbered (Tr.Refused n) = n ≡ 0 → ⊥
 
-moved : (d : Transfer) (o : Outcome) → TransferredNumbered (movedAs d o)
-unfolding movedAs movedBy
-moved d (O.Met x) = by-row (firstFailing (resultRow (velocityOf d (x .n)))) (one-row 9 (resultRow (velocityOf d (x .n))) refl)
+moved : (d : Transfer) (o : Outcome) → TransferredNumbered (transferredAs d o)
+unfolding transferredAs transferredAt
+moved d (O.Met x) = by-row (firstFailing (resultRow (velocityAt d (x .n)))) (one-row 9 (resultRow (velocityAt d (x .n))) refl)
   where
-    by-row : (p : Test) → Numbered 9 p → TransferredNumbered (movedBy p (velocityOf d (x .n)) x)
+    by-row : (p : Test) → Numbered 9 p → TransferredNumbered (transferredAt p (velocityAt d (x .n)) x)
     by-row Passed h = tt
     by-row (Failed f) h = nine-zero h
 moved d O.TooLong = tt

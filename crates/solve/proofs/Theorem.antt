@@ -27,9 +27,9 @@ use Rattle.iterator.specs.Single.{isBelow, isAbove}
 use Rattle.iterator.specs.declared.Bracket.{Bracket}
 use Rattle.kepler.specs.Kepler.{turnedOf, keplerTests, trialAt, judgedTrial, stateAt, rowAt}
 use Rattle.lambert.specs.declared.Way.{Way}
-use Rattle.lambert.specs.Lambert.{transferOf, lambertTests, judgedReach, velocityOf, resultRow}
+use Rattle.lambert.specs.Lambert.{transferOf, lambertTests, judgedReach, velocityAt, resultRow}
 use Rattle.problem.specs.Problems.{judgeOf, startOf, heldOf, lastOf, mostOf}
-use Rattle.solve.specs.Times.{time, none, carriedBy, timedTrial, timedReach, timeInside, timeAt}
+use Rattle.solve.specs.Times.{time, none, carriedBy, timedTrial, timedReach, timeInside, computedAt}
 use Rattle.solve.specs.Ends.{motionFor, turnsFor}
 use Rattle.solve.specs.Answers.{solutionOf, advanceOf, transferVelocityOf}
 use Rattle.problem.specs.declared.Problem.{Problem}
@@ -56,8 +56,8 @@ judge-carries : (problem : Problem) (asked : Float) (n : ℤ) → carriedBy (jud
 judge-carries (Kepler m) asked n = by-trial _
   where
     by-trial : (r : Trial) → carriedBy (judgedTrial asked r) ≡ timedTrial r
-    by-trial (T.At p) = unfold judgedTrial timedTrial in judged-carries asked (p .t)
-    by-trial (T.Out e) = unfold judgedTrial timedTrial in refl
+    by-trial (T.Numbers p) = unfold judgedTrial timedTrial in judged-carries asked (p .t)
+    by-trial (T.Stopped e) = unfold judgedTrial timedTrial in refl
 judge-carries (Lambert d) asked n = by-reach _
   where
     by-reach : (r : Reached) → carriedBy (judgedReach asked r) ≡ timedReach r
@@ -65,8 +65,8 @@ judge-carries (Lambert d) asked n = by-reach _
     by-reach (R.Under e) = unfold judgedReach timedReach in refl
     by-reach (R.Over e) = unfold judgedReach timedReach in refl
 
-held-carries : (problem : Problem) (asked : Float) (n : ℤ) → carriedBy (heldOf problem asked n) ≡ timeAt problem n
-unfolding heldOf timeAt
+held-carries : (problem : Problem) (asked : Float) (n : ℤ) → carriedBy (heldOf problem asked n) ≡ computedAt problem n
+unfolding heldOf computedAt
 held-carries problem asked n = go (ltZ (startOf problem .lo) n) (ltZ n (startOf problem .hi))
   where
     go : (a b : Bool) → carriedBy (cond a (cond b (judgeOf problem asked n) (startOf problem .above)) (startOf problem .below))
@@ -92,8 +92,8 @@ high-by Over t h e = let n : _≡_ {A = ℕ} 0 1 = cc in absurd (zero-one n)
 pub record Sides (problem : Problem) (size asked : Float) (x : Solution) : Type 0 where
   pub t : Float
   pub u : Float
-  pub lower : timeAt problem (x .n) ≡ time t
-  pub upper : timeAt problem (x .n +ℤ pos 1) ≡ time u
+  pub lower : computedAt problem (x .n) ≡ time t
+  pub upper : computedAt problem (x .n +ℤ pos 1) ≡ time u
   pub at-or-below : (t ≤ᶠ asked) ≡ true
   pub above : (asked <ᶠ u) ≡ true
   -- they are those that the trials end on, and x says so: the grid point, the time, err, the grade, and the count, which is that of the
@@ -113,8 +113,8 @@ module _ (problem : Problem) (size asked : Float) (a : Asked asked) (x : Solutio
       record {
         t = m .t;
         u = m .u;
-        lower = ap (timeAt problem) n ∙ sym (held-carries problem asked (last .lo)) ∙ ap carriedBy (m .neighbours .lower);
-        upper = ap (λ (k : ℤ). timeAt problem (k +ℤ pos 1)) n ∙ sym (held-carries problem asked (last .lo +ℤ pos 1)) ∙ ap carriedBy (m .neighbours .upper);
+        lower = ap (computedAt problem) n ∙ sym (held-carries problem asked (last .lo)) ∙ ap carriedBy (m .neighbours .lower);
+        upper = ap (λ (k : ℤ). computedAt problem (k +ℤ pos 1)) n ∙ sym (held-carries problem asked (last .lo +ℤ pos 1)) ∙ ap carriedBy (m .neighbours .upper);
         at-or-below = m .neighbours .at-or-below;
         above = m .neighbours .above;
         solution = m .solution;
@@ -128,10 +128,10 @@ module _ (problem : Problem) (size asked : Float) (a : Asked asked) (x : Solutio
       let h = last-sound problem asked a in
       let e = last-ends problem asked .neighbours in
       let low : last .below ≡ Low (r .t) =
-      low-by (last .below) (r .t) (h .lower) (ap carriedBy (held-below problem asked a) ∙ held-carries problem asked (last .lo) ∙ ap (timeAt problem) n ∙ r .lower) in
+      low-by (last .below) (r .t) (h .lower) (ap carriedBy (held-below problem asked a) ∙ held-carries problem asked (last .lo) ∙ ap (computedAt problem) n ∙ r .lower) in
       let high : last .above ≡ High (r .u) =
       high-by (last .above) (r .u) (h .upper)
-      (ap carriedBy (held-above problem asked a) ∙ held-carries problem asked (last .hi) ∙ ap (timeAt problem) e ∙ ap (λ (k : ℤ). timeAt problem (k +ℤ pos 1)) n ∙ r .upper) in
+      (ap carriedBy (held-above problem asked a) ∙ held-carries problem asked (last .hi) ∙ ap (computedAt problem) e ∙ ap (λ (k : ℤ). computedAt problem (k +ℤ pos 1)) n ∙ r .upper) in
       record {
         t = r .t;
         u = r .u;
@@ -149,7 +149,7 @@ module _ (problem : Problem) (size asked : Float) (a : Asked asked) (x : Solutio
 pub record Flown (mu : Float) (s : State) (t : Float) (z : State) (x : Solution) (turns : ℕ) : Type 0 where
   pub sides : Sides (Kepler (motionFor mu s t)) (sizeOf t) (turnsFor mu s t .rest) x
   pub point : Point
-  pub numbers : trialAt (motionFor mu s t) (x .n) ≡ T.At point
+  pub numbers : trialAt (motionFor mu s t) (x .n) ≡ T.Numbers point
   pub time : point .t ≡ x .t
   pub in-range : rowAt (motionFor mu s t .orbit) (turnedOf t s) point ≡ Passed
   pub turned : z ≡ turnedOf t (stateAt (motionFor mu s t .orbit) (turnedOf t s) point)
@@ -173,7 +173,7 @@ advance-theorem mu s t passed z x turns =
 
 pub record Sent (mu : Float) (first second : Vector) (way : Way) (t : Float) (v : Vector) (x : Solution) : Type 0 where
   pub sides : Sides (Lambert (transferOf mu first second way)) t t x
-  pub velocity : v ≡ velocityOf (transferOf mu first second way) (x .n)
+  pub velocity : v ≡ velocityAt (transferOf mu first second way) (x .n)
   pub in-range : firstFailing (resultRow v) ≡ Passed
 
 pub transfer-theorem : (mu : Float) (first second : Vector) (way : Way) (t : Float) → firstFailing (lambertTests mu first second way t (transferOf mu first second way)) ≡ Passed

@@ -30,8 +30,8 @@ carriedBy Over = none
 
 -- a time counts within −2^28..2^28
 unfoldable pub timedTrial : Trial → Computed
-timedTrial (T.At p) = cond (inTime (p .t)) (time (p .t)) none
-timedTrial (T.Out e) = none
+timedTrial (T.Numbers p) = cond (inTime (p .t)) (time (p .t)) none
+timedTrial (T.Stopped e) = none
 
 unfoldable pub timedReach : Reached → Computed
 timedReach (R.Time t) = cond (inTime t) (time t) none
@@ -43,8 +43,8 @@ timeInside (Kepler m) n = timedTrial (trialAt m n)
 timeInside (Lambert d) n = timedReach (reachAt d (gridOf n))
 
 -- the grid's own ends are not evaluated: they carry what they start with
-unfoldable pub timeAt : Problem → ℤ → Computed
-timeAt problem n =
+unfoldable pub computedAt : Problem → ℤ → Computed
+computedAt problem n =
     cond (ltZ (startOf problem .lo) n)
     (cond (ltZ n (startOf problem .hi)) (timeInside problem n) (carriedBy (startOf problem .above)))
     (carriedBy (startOf problem .below))

@@ -12,7 +12,7 @@ use borrow.Author.Tests.{ltb-true, ltb-false}
 use Rattle.facts.proofs.Lists.{take-most}
 use Rattle.split.specs.declared.Found.the-variants.{Line, Kept}
 use Rattle.text.specs.Pieces.{concat}
-use Rattle.split.specs.Split.{Rows, ended, grown, rowsFrom, joined, linesFrom, cut, ahead, added, foundOf, roomOf}
+use Rattle.split.specs.Split.{Rows, lineEnded, grown, rowsFrom, joined, linesFrom, cut, ahead, added, foundOf, roomOf}
 use Rattle.split.specs.Calls.{Calls, last, next, Input, done, part}
 use Rattle.split.proofs.Parts.{one-cut, take-front, take-none, cut-lines}
 
@@ -25,18 +25,18 @@ on cap kept b s = take-front cap (kept ++ (b ∷ [])) s ∙ ap (take cap) (appen
 
 -- the first line, where there is a newline
 line-by : (e : Bool) (cap : ℕ) (kept : List ℕ) (b : ℕ) (s : List ℕ) → length kept ≤ cap
-    → ((k : List ℕ) → length k ≤ cap → length (ahead s) < length s → rowsFrom cap k s ≡ ended true (take cap (k ++ ahead s)) (rowsFrom cap [] (drop (suc (length (ahead s))) s)))
+    → ((k : List ℕ) → length k ≤ cap → length (ahead s) < length s → rowsFrom cap k s ≡ lineEnded true (take cap (k ++ ahead s)) (rowsFrom cap [] (drop (suc (length (ahead s))) s)))
     → length (cond e [] (b ∷ ahead s)) < length (b ∷ s)
-    → ended e kept (rowsFrom cap (grown e cap kept b) s)
-    ≡ ended true (take cap (kept ++ cond e [] (b ∷ ahead s))) (rowsFrom cap [] (drop (suc (length (cond e [] (b ∷ ahead s)))) (b ∷ s)))
+    → lineEnded e kept (rowsFrom cap (grown e cap kept b) s)
+    ≡ lineEnded true (take cap (kept ++ cond e [] (b ∷ ahead s))) (rowsFrom cap [] (drop (suc (length (cond e [] (b ∷ ahead s)))) (b ∷ s)))
 line-by true cap kept b s h i l =
-    ap (λ (k : List ℕ). ended true k (rowsFrom cap [] s)) (sym (ap (take cap) (append-nil kept) ∙ take-all cap kept h))
+    ap (λ (k : List ℕ). lineEnded true k (rowsFrom cap [] s)) (sym (ap (take cap) (append-nil kept) ∙ take-all cap kept h))
 line-by false cap kept b s h i l =
     i (take cap (kept ++ (b ∷ []))) (take-most cap (kept ++ (b ∷ []))) (omega (arith, l))
-    ∙ ap (λ (k : List ℕ). ended true k (rowsFrom cap [] (drop (suc (length (ahead s))) s))) (on cap kept b (ahead s))
+    ∙ ap (λ (k : List ℕ). lineEnded true k (rowsFrom cap [] (drop (suc (length (ahead s))) s))) (on cap kept b (ahead s))
 
 pub rows-line : (cap : ℕ) (s kept : List ℕ) → length kept ≤ cap → length (ahead s) < length s
-    → rowsFrom cap kept s ≡ ended true (take cap (kept ++ ahead s)) (rowsFrom cap [] (drop (suc (length (ahead s))) s))
+    → rowsFrom cap kept s ≡ lineEnded true (take cap (kept ++ ahead s)) (rowsFrom cap [] (drop (suc (length (ahead s))) s))
 unfolding rowsFrom ahead
 rows-line cap [] kept h l = let w : ⊥ = omega (arith, l) in absurd w
 rows-line cap (b ∷ s) kept h l = line-by (eqb b 10) cap kept b s h (λ k m n. rows-line cap s k m n) l
@@ -44,7 +44,7 @@ rows-line cap (b ∷ s) kept h l = line-by (eqb b 10) cap kept b s h (λ k m n. 
 none-by : (e : Bool) (cap : ℕ) (kept : List ℕ) (b : ℕ) (s : List ℕ) → length kept ≤ cap
     → ((k : List ℕ) → length k ≤ cap → length s ≤ length (ahead s) → rowsFrom cap k s ≡ record { lines = []; kept = take cap (k ++ ahead s) })
     → length (b ∷ s) ≤ length (cond e [] (b ∷ ahead s))
-    → ended e kept (rowsFrom cap (grown e cap kept b) s) ≡ record { lines = []; kept = take cap (kept ++ cond e [] (b ∷ ahead s)) }
+    → lineEnded e kept (rowsFrom cap (grown e cap kept b) s) ≡ record { lines = []; kept = take cap (kept ++ cond e [] (b ∷ ahead s)) }
 none-by true cap kept b s h i l = let w : ⊥ = omega (arith, l) in absurd w
 none-by false cap kept b s h i l =
     i (take cap (kept ++ (b ∷ []))) (take-most cap (kept ++ (b ∷ []))) (omega (arith, l))
@@ -121,10 +121,10 @@ calls-law (next {d} {k} {p} {from} {n} {at} {ls} {f} {m} e cs) h l =
     record {
       rows =
           rows-line (length d) rest (take k d) (omega (arith, size d k rest h, h)) c
-          ∙ ap (λ (x : List ℕ). ended true x (rowsFrom (length d) [] (drop (suc (length (ahead rest))) rest))) (sym (front d k rest h) ∙ ap (λ (j : ℕ). take j (roomOf d k rest)) (sym (t .1)))
-          ∙ ap (λ (x : List ℕ). ended true (take n (roomOf d k rest)) (rowsFrom (length d) [] x)) (drop-drop (suc (length (ahead rest))) from p ∙ ap (λ (j : ℕ). drop j p) i)
-          ∙ ap (λ (j : ℕ). ended true (take n (roomOf d k rest)) (rowsFrom j [] (drop at p))) (sym z)
-          ∙ ap (ended true (take n (roomOf d k rest))) (g .rows);
+          ∙ ap (λ (x : List ℕ). lineEnded true x (rowsFrom (length d) [] (drop (suc (length (ahead rest))) rest))) (sym (front d k rest h) ∙ ap (λ (j : ℕ). take j (roomOf d k rest)) (sym (t .1)))
+          ∙ ap (λ (x : List ℕ). lineEnded true (take n (roomOf d k rest)) (rowsFrom (length d) [] x)) (drop-drop (suc (length (ahead rest))) from p ∙ ap (λ (j : ℕ). drop j p) i)
+          ∙ ap (λ (j : ℕ). lineEnded true (take n (roomOf d k rest)) (rowsFrom j [] (drop at p))) (sym z)
+          ∙ ap (lineEnded true (take n (roomOf d k rest))) (g .rows);
       size = g .size ∙ z;
       inside = g .inside;
     }
@@ -149,7 +149,7 @@ reads-lines {d} {ps} {ls} {w} i =
 
 -- one call: a line, and what is behind it
 pub record Lined (d : List ℕ) (k : ℕ) (p : List ℕ) (from n at : ℕ) : Type 0 where
-  pub rows : rowsFrom (length d) (take k d) (drop from p) ≡ ended true (take n (roomOf d k (drop from p))) (rowsFrom (length d) [] (drop at p))
+  pub rows : rowsFrom (length d) (take k d) (drop from p) ≡ lineEnded true (take n (roomOf d k (drop from p))) (rowsFrom (length d) [] (drop at p))
   pub size : length (roomOf d k (drop from p)) ≡ length d
   pub short : n ≤ length d
   pub forth : from < at
@@ -164,8 +164,8 @@ line-law d k p from n at e h l =
     record {
       rows =
           rows-line (length d) rest (take k d) (omega (arith, size d k rest h, h)) c
-          ∙ ap (λ (x : List ℕ). ended true x (rowsFrom (length d) [] (drop (suc (length (ahead rest))) rest))) (sym (front d k rest h) ∙ ap (λ (j : ℕ). take j (roomOf d k rest)) (sym (t .1)))
-          ∙ ap (λ (x : List ℕ). ended true (take n (roomOf d k rest)) (rowsFrom (length d) [] x)) (drop-drop (suc (length (ahead rest))) from p ∙ ap (λ (j : ℕ). drop j p) i);
+          ∙ ap (λ (x : List ℕ). lineEnded true x (rowsFrom (length d) [] (drop (suc (length (ahead rest))) rest))) (sym (front d k rest h) ∙ ap (λ (j : ℕ). take j (roomOf d k rest)) (sym (t .1)))
+          ∙ ap (λ (x : List ℕ). lineEnded true (take n (roomOf d k rest)) (rowsFrom (length d) [] x)) (drop-drop (suc (length (ahead rest))) from p ∙ ap (λ (j : ℕ). drop j p) i);
       size = room-size d k rest h;
       short = omega (arith, room-kept d k rest h, t .1);
       forth = omega (arith, t .2);

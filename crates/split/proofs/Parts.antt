@@ -7,17 +7,17 @@ use lib.ListN.{take}
 use lib.Dec.{eqb}
 use borrow.Author.Tests.{eqb-true}
 use Rattle.text.specs.Pieces.{concat}
-use Rattle.split.specs.Split.{Rows, ended, grown, rowsFrom, joined, partsFrom, linesFrom, eachCut, cut, unlines}
+use Rattle.split.specs.Split.{Rows, lineEnded, grown, rowsFrom, joined, partsFrom, linesFrom, eachCut, cut, unlines}
 
-ended-joined : (b : Bool) (kept : List ℕ) (ls : List (List ℕ)) (x : Rows) → ended b kept (joined ls x) ≡ joined (ended b kept (record { lines = ls; kept = [] }) .lines) x
+ended-joined : (b : Bool) (kept : List ℕ) (ls : List (List ℕ)) (x : Rows) → lineEnded b kept (joined ls x) ≡ joined (lineEnded b kept (record { lines = ls; kept = [] }) .lines) x
 ended-joined true kept ls x = refl
 ended-joined false kept ls x = refl
 
-lines-of : (b : Bool) (kept : List ℕ) (x y : Rows) → x .lines ≡ y .lines → ended b kept x .lines ≡ ended b kept y .lines
+lines-of : (b : Bool) (kept : List ℕ) (x y : Rows) → x .lines ≡ y .lines → lineEnded b kept x .lines ≡ lineEnded b kept y .lines
 lines-of true kept x y e = ap (λ (l : List (List ℕ)). kept ∷ l) e
 lines-of false kept x y e = e
 
-kept-of : (b : Bool) (kept : List ℕ) (x : Rows) → ended b kept x .kept ≡ x .kept
+kept-of : (b : Bool) (kept : List ℕ) (x : Rows) → lineEnded b kept x .kept ≡ x .kept
 kept-of true kept x = refl
 kept-of false kept x = refl
 
@@ -28,10 +28,10 @@ one-cut cap kept [] t = refl
 one-cut cap kept (b ∷ s) t =
     let e = eqb b 10 in
     let x = rowsFrom cap (grown e cap kept b) s in
-    ap (ended e kept) (one-cut cap (grown e cap kept b) s t)
+    ap (lineEnded e kept) (one-cut cap (grown e cap kept b) s t)
     ∙ ended-joined e kept (x .lines) (rowsFrom cap (x .kept) t)
     ∙ ap (λ (l : List (List ℕ)). joined l (rowsFrom cap (x .kept) t)) (lines-of e kept (record { lines = x .lines; kept = [] }) x refl)
-    ∙ ap (λ (k : List ℕ). joined (ended e kept x .lines) (rowsFrom cap k t)) (sym (kept-of e kept x))
+    ∙ ap (λ (k : List ℕ). joined (lineEnded e kept x .lines) (rowsFrom cap k t)) (sym (kept-of e kept x))
 
 -- any parts
 pub any-parts : (cap : ℕ) (ps : List (List ℕ)) (kept : List ℕ) → partsFrom cap kept ps ≡ rowsFrom cap kept (concat ps)
@@ -46,7 +46,7 @@ take-front zero l r = refl
 take-front (suc n) [] r = refl
 take-front (suc n) (x ∷ l) r = ap (λ (z : List ℕ). x ∷ z) (take-front n l r)
 
-cut-ended : (b : Bool) (cap : ℕ) (kept : List ℕ) (x : Rows) → ended b (take cap kept) (cut cap x) ≡ cut cap (ended b kept x)
+cut-ended : (b : Bool) (cap : ℕ) (kept : List ℕ) (x : Rows) → lineEnded b (take cap kept) (cut cap x) ≡ cut cap (lineEnded b kept x)
 unfolding eachCut
 cut-ended true cap kept x = refl
 cut-ended false cap kept x = refl
@@ -65,14 +65,14 @@ unfolding rowsFrom linesFrom eachCut
 cut-lines cap [] kept = refl
 cut-lines cap (b ∷ s) kept =
     let e = eqb b 10 in
-    ap (λ (k : List ℕ). ended e (take cap kept) (rowsFrom cap k s)) (cut-grown e cap kept b)
-    ∙ ap (ended e (take cap kept)) (cut-lines cap s (cond e [] (kept ++ (b ∷ []))))
+    ap (λ (k : List ℕ). lineEnded e (take cap kept) (rowsFrom cap k s)) (cut-grown e cap kept b)
+    ∙ ap (lineEnded e (take cap kept)) (cut-lines cap s (cond e [] (kept ++ (b ∷ []))))
     ∙ cut-ended e cap kept (linesFrom (cond e [] (kept ++ (b ∷ []))) s)
 
 -- the lines put together again are the input
 back-by : (e : Bool) (b : ℕ) (s kept : List ℕ) → eqb b 10 ≡ e
     → ((k : List ℕ) → unlines (linesFrom k s .lines) (linesFrom k s .kept) ≡ k ++ s)
-    → unlines (ended e kept (linesFrom (cond e [] (kept ++ (b ∷ []))) s) .lines) (ended e kept (linesFrom (cond e [] (kept ++ (b ∷ []))) s) .kept) ≡ kept ++ (b ∷ s)
+    → unlines (lineEnded e kept (linesFrom (cond e [] (kept ++ (b ∷ []))) s) .lines) (lineEnded e kept (linesFrom (cond e [] (kept ++ (b ∷ []))) s) .kept) ≡ kept ++ (b ∷ s)
 unfolding unlines
 back-by true b s kept q h = ap (λ (l : List ℕ). kept ++ (10 ∷ l)) (h []) ∙ ap (λ (n : ℕ). kept ++ (n ∷ s)) (sym (eqb-true b 10 q))
 back-by false b s kept q h = h (kept ++ (b ∷ [])) ∙ append-assoc kept (b ∷ []) s

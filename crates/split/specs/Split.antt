@@ -12,9 +12,9 @@ pub record Rows : Type 0 where
   pub lines : List (List ℕ)
   pub kept : List ℕ
 
-abbrev pub ended : Bool → List ℕ → Rows → Rows
-ended true kept x = record { lines = kept ∷ x .lines; kept = x .kept }
-ended false kept x = x
+abbrev pub lineEnded : Bool → List ℕ → Rows → Rows
+lineEnded true kept x = record { lines = kept ∷ x .lines; kept = x .kept }
+lineEnded false kept x = x
 
 abbrev pub grown : Bool → ℕ → List ℕ → ℕ → List ℕ
 grown true cap kept b = []
@@ -23,7 +23,7 @@ grown false cap kept b = take cap (kept ++ (b ∷ []))
 -- s behind the kept front of a line, byte by byte; of each line no more than `cap` bytes are kept
 unfoldable pub rowsFrom : ℕ → List ℕ → List ℕ → Rows
 rowsFrom cap kept [] = record { lines = []; kept = kept }
-rowsFrom cap kept (b ∷ s) = ended (eqb b 10) kept (rowsFrom cap (grown (eqb b 10) cap kept b) s)
+rowsFrom cap kept (b ∷ s) = lineEnded (eqb b 10) kept (rowsFrom cap (grown (eqb b 10) cap kept b) s)
 
 abbrev pub joined : List (List ℕ) → Rows → Rows
 joined ls x = record { lines = ls ++ x .lines; kept = x .kept }
@@ -36,7 +36,7 @@ partsFrom cap kept (p ∷ ps) = joined (rowsFrom cap kept p .lines) (partsFrom c
 -- Lines with nothing cut off: what the input is made of.
 unfoldable pub linesFrom : List ℕ → List ℕ → Rows
 linesFrom kept [] = record { lines = []; kept = kept }
-linesFrom kept (b ∷ s) = ended (eqb b 10) kept (linesFrom (cond (eqb b 10) [] (kept ++ (b ∷ []))) s)
+linesFrom kept (b ∷ s) = lineEnded (eqb b 10) kept (linesFrom (cond (eqb b 10) [] (kept ++ (b ∷ []))) s)
 
 unfoldable pub eachCut : ℕ → List (List ℕ) → List (List ℕ)
 eachCut cap [] = []

@@ -11,6 +11,7 @@ use borrow.Author.Tests.{lt-ltb, le-ltb, ltb-false, ne-eqb, eqb-true}
 use Rattle.facts.proofs.Lists.{take-most}
 use Rattle.text.specs.Text.{Stands}
 use Rattle.text.proofs.Stand.{same-size}
+use Rattle.text.specs.Pieces.{concat}
 use Rattle.session.specs.declared.record.Record.{Record}
 use Rattle.session.specs.declared.record.Decoded.{Decoded}
 use Rattle.session.specs.declared.record.Decoded.the-variants as D
@@ -23,7 +24,7 @@ use Rattle.stream.specs.declared.Standing.{Standing}
 use Rattle.stream.specs.declared.Standing.the-variants.{Open, Refused, Ended}
 use Rattle.stream.specs.declared.Step.{Step}
 use Rattle.stream.specs.declared.Step.the-variants as S
-use Rattle.stream.specs.Stream.{Ending, ended, refused, Run, stop, joined, wholeOf, Reader, reading, stopped, Move, got, set, none, limit, foundAt, seen, moveFor, moveOf, endOf, concat, standingOf, isSound, stepIn, put, roomOn, stepOn, stepOpen, roomOpen, stepOf, roomOf, finishOf}
+use Rattle.stream.specs.Stream.{Ending, ended, refused, Run, stop, joined, wholeRun, Reader, reading, stopped, Move, got, set, none, mostBytes, foundAt, seen, moveFor, moveOf, endOf, standingOf, isSound, stepIn, put, roomOn, stepOn, stepOpen, roomOpen, stepOf, roomOf, finishOf}
 use Rattle.stream.specs.Calls.{Calls, last, next, sets, endIn, Session, done, more}
 use Rattle.stream.proofs.Parts.{leftOf, Kept, taken, Goes, Stays, After, move-law, end-law, joins, all-seen}
 use Rattle.stream.proofs.Opens.{Sound, sound-by, sound, is-sound, is-over, is-passed, is-empty}
@@ -56,15 +57,15 @@ Holds (set q n) e = Unit {0}
 Holds (none (reading q l)) e = take (length l) e ≡ l
 Holds (none (stopped w)) e = Unit {0}
 
-module _ (p : Place) (k : ℕ) (d part : List ℕ) (from : ℕ) (s : Sound p k d) (h : 62 ≤ length d) (c : p .at + k + length (drop from part) ≤ limit) where
+module _ (p : Place) (k : ℕ) (d part : List ℕ) (from : ℕ) (s : Sound p k d) (h : 62 ≤ length d) (c : p .at + k + length (drop from part) ≤ mostBytes) where
   size : length (take k d) ≡ k
   size = length-take-le k d (omega (arith, s .fits, h))
 
-  counted : ltb limit (p .at + k + (length part - from)) ≡ false
-  counted = le-ltb limit (p .at + k + (length part - from)) (omega (arith, c, length-drop from part))
+  counted : ltb mostBytes (p .at + k + (length part - from)) ≡ false
+  counted = le-ltb mostBytes (p .at + k + (length part - from)) (omega (arith, c, length-drop from part))
 
-  counted-too : ltb limit (p .at + length (take k d) + length (drop from part)) ≡ false
-  counted-too = le-ltb limit (p .at + length (take k d) + length (drop from part)) (omega (arith, c, size))
+  counted-too : ltb mostBytes (p .at + length (take k d) + length (drop from part)) ≡ false
+  counted-too = le-ltb mostBytes (p .at + length (take k d) + length (drop from part)) (omega (arith, c, size))
 
   step-open : stepOpen p k d part from ≡ stepIn from (moveOf (reading p (take k d)) (drop from part))
   step-open =
@@ -110,10 +111,10 @@ record Same (x : Standing) (d part : List ℕ) (from : ℕ) : Type 0 where
   holds : Holds move (roomOf x d part from)
   size : length (roomOf x d part from) ≡ length d
 
-same : (x : Standing) (d part : List ℕ) (from : ℕ) → Ready x d → taken (readerOf x d) + length (drop from part) ≤ limit → Same x d part from
+same : (x : Standing) (d part : List ℕ) (from : ℕ) → Ready x d → taken (readerOf x d) + length (drop from part) ≤ mostBytes → Same x d part from
 same (Open p k) d part from y h =
     let s = y .stood in
-    let c : p .at + k + length (drop from part) ≤ limit = omega (arith, h, length-take-le k d (omega (arith, s .fits, y .room))) in
+    let c : p .at + k + length (drop from part) ≤ mostBytes = omega (arith, h, length-take-le k d (omega (arith, s .fits, y .room))) in
     record {
       move = moveOf (reading p (take k d)) (drop from part);
       after = move-law (reading p (take k d)) (drop from part) (s .unfinished, s .allowed) h;
@@ -185,13 +186,13 @@ tests-by false false false u v z s i j e h = stuck v j (ap isStop (sym e) ∙ h)
 tests-by false false true u v z s i j e h = (refl, refl, refl)
 
 passed-all : (x : Standing) (d part : List ℕ) (from : ℕ) (s : Step) → s ≡ stepOf x d part from → isStop s ≡ false
-    → Ready x d × (taken (readerOf x d) + length (drop from part) ≤ limit)
+    → Ready x d × (taken (readerOf x d) + length (drop from part) ≤ mostBytes)
 passed-all (Open p k) d part from s e h =
-    let t = tests-by (ltb limit (p .at + k + length (drop from part))) (ltb (length d) 62) (isSound p (take k d)) (S.Stopped (Refused 15 (p .at))) (S.Stopped (Refused 14 (p .at))) (stepOn p k d part from) s refl refl e h in
+    let t = tests-by (ltb mostBytes (p .at + k + length (drop from part))) (ltb (length d) 62) (isSound p (take k d)) (S.Stopped (Refused 15 (p .at))) (S.Stopped (Refused 14 (p .at))) (stepOn p k d part from) s refl refl e h in
     let r = ltb-false (length d) 62 (t .1) in
     let o = sound p k d r (t .2) in
     let l = length-take-le k d (omega (arith, o .fits, r)) in
-    (record { room = r; stood = o }, omega (arith, l, ltb-false limit (p .at + k + length (drop from part)) (t .0)))
+    (record { room = r; stood = o }, omega (arith, l, ltb-false mostBytes (p .at + k + length (drop from part)) (t .0)))
 passed-all (Refused n at) d part from s e h = stuck s (ap isStop e) h
 passed-all Ended d part from s e h = stuck s (ap isStop e) h
 
@@ -216,8 +217,8 @@ offset-forth x d part from q at e =
 behind-it : {x : Reader} (p : List ℕ) {b : Reading} {q : Place} {from at : ℕ} (g : Went x (drop from p) b q from at) → drop (g .used) (drop from p) ≡ drop at p
 behind-it {x} p {b} {q} {from} {at} g = drop-drop (g .used) from p ∙ ap (λ (j : ℕ). drop j p) (sym (g .place))
 
-fewer : {x : Reader} (p : List ℕ) {b : Reading} {q : Place} {from at : ℕ} (g : Went x (drop from p) b q from at) → taken x + length (drop from p) ≤ limit
-    → q .at + 0 + length (drop at p) ≤ limit
+fewer : {x : Reader} (p : List ℕ) {b : Reading} {q : Place} {from at : ℕ} (g : Went x (drop from p) b q from at) → taken x + length (drop from p) ≤ mostBytes
+    → q .at + 0 + length (drop at p) ≤ mostBytes
 fewer {x} p {b} {q} {from} {at} g h =
     omega (arith, g .goes .count, g .goes .inside, ap length (behind-it p g), length-drop (g .used) (drop from p))
 
@@ -226,7 +227,7 @@ open-ready q e h o = record { room = h; stood = record { fits = zero-le; unfinis
 
 -- one part
 pub calls-law : {x : Standing} {d p : List ℕ} {from : ℕ} {xs : List Reading} {z : Standing} {f : List ℕ} → Calls x d p from xs z f → Ready x d
-    → taken (readerOf x d) + length (drop from p) ≤ limit → Stays (readerOf x d) (drop from p) xs (readerOf z f) × Ready z f
+    → taken (readerOf x d) + length (drop from p) ≤ mostBytes → Stays (readerOf x d) (drop from p) xs (readerOf z f) × Ready z f
 calls-law (last {x} {d} {p} {from} {y} w) s h =
     let m = same x d p from s h in
     let l : 62 ≤ length (roomOf x d p from) = omega (arith, m .size, s .room) in
@@ -254,7 +255,7 @@ end-by (Refused n at) d s = refl
 end-by Ended d s = refl
 
 pub session-law : {x : Standing} {d : List ℕ} {ps : List (List ℕ)} {xs : List Reading} {w : Ending} → Session x d ps xs w → Ready x d
-    → taken (readerOf x d) + length (concat ps) ≤ limit → _≡_ {A = Run} (record { readings = xs; ending = w }) (leftOf (readerOf x d) (concat ps))
+    → taken (readerOf x d) + length (concat ps) ≤ mostBytes → _≡_ {A = Run} (record { readings = xs; ending = w }) (leftOf (readerOf x d) (concat ps))
 unfolding concat
 session-law (done {x} {d}) s h = ap stop (end-by x d s) ∙ end-law (readerOf x d) (kept-by x d (s .stood))
 session-law (more {x} {d} {p} {xs} {y} {e} {ps} {ys} {w} cs rest) s h =
@@ -264,15 +265,15 @@ session-law (more {x} {d} {p} {xs} {y} {e} {ps} {ys} {w} cs rest) s h =
 
 -- from the start, with a room of 62 bytes: what is read and how it ends are the whole's
 pub reads-whole : {d : List ℕ} {ps : List (List ℕ)} {xs : List Reading} {w : Ending} → 62 ≤ length d → Session (Open start 0) d ps xs w
-    → length (concat ps) ≤ limit → _≡_ {A = Run} (record { readings = xs; ending = w }) (wholeOf (concat ps))
+    → length (concat ps) ≤ mostBytes → _≡_ {A = Run} (record { readings = xs; ending = w }) (wholeRun (concat ps))
 reads-whole {d} r s h = session-law s (open-ready start d r refl) (omega arith)
 
 -- an empty part, and one with no byte left, changes nothing
-pub empty-part : (x : Standing) (d part : List ℕ) (from : ℕ) → Ready x d → taken (readerOf x d) ≤ limit → length part ≤ from
+pub empty-part : (x : Standing) (d part : List ℕ) (from : ℕ) → Ready x d → taken (readerOf x d) ≤ mostBytes → length part ≤ from
     → (stepOf x d part from ≡ S.Stopped x) × (roomOf x d part from ≡ d)
 empty-part (Open p k) d part from y h l =
     let s = y .stood in
-    let c = le-ltb limit (p .at + k + (length part - from)) (omega (arith, h, length-take-le k d (omega (arith, s .fits, y .room)))) in
+    let c = le-ltb mostBytes (p .at + k + (length part - from)) (omega (arith, h, length-take-le k d (omega (arith, s .fits, y .room)))) in
     let a = is-passed p k d part from c (y .room) (is-sound p k d s) in
     let b = is-empty p k d part from s (y .room) l in
     (sym (b .0 ∙ a .0), sym (b .1 ∙ a .1))
@@ -280,10 +281,10 @@ empty-part (Refused n at) d part from y h l = (refl, refl)
 empty-part Ended d part from y h l = (refl, refl)
 
 -- a count over its limit is 15, ahead of all but a repeated answer: whatever is kept, in whatever room
-pub over : (p : Place) (k : ℕ) (d part : List ℕ) (from : ℕ) → limit < p .at + k + (length part - from)
+pub over : (p : Place) (k : ℕ) (d part : List ℕ) (from : ℕ) → mostBytes < p .at + k + (length part - from)
     → (stepOf (Open p k) d part from ≡ S.Stopped (Refused 15 (p .at))) × (roomOf (Open p k) d part from ≡ d)
 over p k d part from h =
-    let o = is-over p k d part from (lt-ltb limit (p .at + k + (length part - from)) h) in
+    let o = is-over p k d part from (lt-ltb mostBytes (p .at + k + (length part - from)) h) in
     (sym (o .0), sym (o .1))
 
 -- after a refusal or an end, each later call gives that answer again and changes no byte of the room

@@ -18,7 +18,7 @@ use Rattle.session.specs.declared.record.Head.the-variants.{Good, Bad}
 use Rattle.session.specs.declared.record.Record.{Record}
 use Rattle.session.specs.declared.record.Decoded.the-variants.{Whole, Offset, Refused}
 use Rattle.field.specs.Bytes.{field}
-use Rattle.session.specs.Kinds.{kindOf, lengthOf, numberOf}
+use Rattle.session.specs.Kinds.{kindOf, recordLength, kindNumber}
 use Rattle.session.specs.Decode.{allowedAt, judged, headOf, decoded, decodeOf}
 use Rattle.session.specs.Offset.{isOffset, minutesAt, goodOffset, offsetOf, decodeAt}
 use Rattle.session.proofs.Table.{kind-number}
@@ -27,13 +27,13 @@ use Rattle.session.proofs.Offsets.{at-whole, at-offset}
 use Rattle.session.proofs.Stable.{field-more}
 
 -- no record is longer than a state
-at-most : (k : Kind) → lengthOf k ≤ 62
+at-most : (k : Kind) → recordLength k ≤ 62
 at-most State = lit≤ tt
 at-most Burn = lit≤ tt
 at-most Mark = lit≤ tt
 
 -- no kind of the table is 4
-not-four : (k : Kind) → numberOf k ≤ 3
+not-four : (k : Kind) → kindNumber k ≤ 3
 not-four State = lit≤ tt
 not-four Burn = lit≤ tt
 not-four Mark = lit≤ tt
@@ -43,7 +43,7 @@ not-four Mark = lit≤ tt
 -- with the whole record nothing waits.
 pub data Eleven (s : List ℕ) : Type 0 where
   tiny : length s < 4 → Eleven s
-  cut : (k : Kind) → 4 ≤ length s → kindOf (field 2 2 s) ≡ Known k → field 0 2 s ≡ lengthOf k → length s < lengthOf k → Eleven s
+  cut : (k : Kind) → 4 ≤ length s → kindOf (field 2 2 s) ≡ Known k → field 0 2 s ≡ recordLength k → length s < recordLength k → Eleven s
   set : 4 ≤ length s → field 2 2 s ≡ 4 → field 0 2 s ≡ 8 → length s < 8 → Eleven s
 
 by-tests : (e l a : Bool) (k : Kind) → cond (not e) (Bad 12) (cond l (Bad 11) (cond a (Good k) (Bad 14))) ≡ Bad 11 → (e ≡ true) × (l ≡ true)
@@ -55,8 +55,8 @@ by-tests true false false k p = let z : _≡_ {A = ℕ} 14 11 = cc in let w : �
 by-found : (s : List ℕ) (f : Found) → f ≡ kindOf (field 2 2 s) → 4 ≤ length s → judged f s ≡ Bad 11 → Eleven s
 by-found s Unknown q h p = let z : _≡_ {A = ℕ} 13 11 = cc in let w : ⊥ = omega arith in absurd w
 by-found s (Known k) q h p =
-    let t = by-tests (eqb (field 0 2 s) (lengthOf k)) (ltb (length s) (lengthOf k)) (allowedAt k s) k p in
-    cut k h (sym q) (eqb-true (field 0 2 s) (lengthOf k) (t .0)) (ltb-true (length s) (lengthOf k) (t .1))
+    let t = by-tests (eqb (field 0 2 s) (recordLength k)) (ltb (length s) (recordLength k)) (allowedAt k s) k p in
+    cut k h (sym q) (eqb-true (field 0 2 s) (recordLength k) (t .0)) (ltb-true (length s) (recordLength k) (t .1))
 
 by-front : (s : List ℕ) (a b : Bool) → ltb (length s) 4 ≡ a
     → cond a (Bad 11) (cond b (Bad 12) (judged (kindOf (field 2 2 s)) s)) ≡ Bad 11 → Eleven s
@@ -94,8 +94,8 @@ pub short : (first : Bool) (s : List ℕ) → decodeAt first s ≡ Refused 11 �
 short first s p = short-by (eleven first s p)
 
 kind-in : (h : Head) (s : List ℕ) (r : Record) (n : ℕ) → h ≡ headOf s → decoded h s ≡ Whole r n
-    → (k : Kind) × (n ≡ lengthOf k) × (kindOf (field 2 2 s) ≡ Known k)
-kind-in (Good k) s r n q p = let e : lengthOf k ≡ n = cc in (k, sym e, good-kind s k (sym q))
+    → (k : Kind) × (n ≡ recordLength k) × (kindOf (field 2 2 s) ≡ Known k)
+kind-in (Good k) s r n q p = let e : recordLength k ≡ n = cc in (k, sym e, good-kind s k (sym q))
 kind-in (Bad x) s r n q p = let z : _≡_ {A = ℕ} 0 1 = cc in let w : ⊥ = omega arith in absurd w
 
 record-by : (s t : List ℕ) (r : Record) (n : ℕ) → decodeOf (s ++ t) ≡ Whole r n → Eleven s → length s < n
@@ -104,7 +104,7 @@ record-by s t r n p (cut k h q i l) =
     let x = kind-in (headOf (s ++ t)) (s ++ t) r n refl p in
     let e : Known k ≡ Known (x .0) = sym q ∙ ap kindOf (sym (field-more s t 2 2 h)) ∙ x .2 in
     let f : k ≡ x .0 = cc in
-    omega (arith, l, ap lengthOf f, x .1)
+    omega (arith, l, ap recordLength f, x .1)
 record-by s t r n p (set h k e l) = omega (arith, l, whole-fits (s ++ t) r n p .0)
 
 offset-by : (s t : List ℕ) → field 2 2 (s ++ t) ≡ 4 → Eleven s → length s < 8

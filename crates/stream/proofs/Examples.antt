@@ -10,13 +10,13 @@ use Rattle.session.specs.declared.Reading.the-variants as A
 use Rattle.session.specs.Layout.{numbersFrom, allFinite}
 use Rattle.session.specs.Read.{start}
 use Rattle.session.proofs.Examples.{burn}
-use Rattle.stream.specs.Stream.{ended, refused, runIn, wholeOf, reading, feedIn, partsOf}
+use Rattle.stream.specs.Stream.{ended, refused, runIn, wholeRun, reading, feedIn, partsOf}
 
-pub burn-whole : (length (wholeOf burn .readings) ≡ 1) × (wholeOf burn .ending ≡ ended)
+pub burn-whole : (length (wholeRun burn .readings) ≡ 1) × (wholeRun burn .ending ≡ ended)
 unfolding runIn allFinite numbersFrom ofBits
 burn-whole = (refl, refl)
 
-pub burn-parts : partsOf (reading start []) (take 3 burn ∷ [] ∷ drop 3 burn ∷ []) ≡ wholeOf burn
+pub burn-parts : partsOf (reading start []) (take 3 burn ∷ [] ∷ drop 3 burn ∷ []) ≡ wholeRun burn
 unfolding runIn partsOf feedIn allFinite numbersFrom ofBits
 burn-parts = refl
 

@@ -18,7 +18,7 @@ use Rattle.session.specs.Limits.{offsetAllowed}
 use Rattle.stream.specs.declared.Standing.the-variants.{Open, Refused}
 use Rattle.stream.specs.declared.Step.{Step}
 use Rattle.stream.specs.declared.Step.the-variants as S
-use Rattle.stream.specs.Stream.{limit, foundAt, moveFor, isCut, isSound, stepIn, stepOn, roomOn, opened, stepOpen, roomOpen}
+use Rattle.stream.specs.Stream.{mostBytes, foundAt, moveFor, isCut, isSound, stepIn, stepOn, roomOn, opened, stepOpen, roomOpen}
 use Rattle.stream.proofs.Cut.{short}
 use Rattle.stream.proofs.Steps.{cut-eleven, front-long}
 
@@ -45,21 +45,21 @@ module _ (p : Place) (k : ℕ) (d : List ℕ) where
   is-sound s = rw (s .allowed, s .unfinished) refl
 
   module _ (part : List ℕ) (from : ℕ) where
-    count : (b : Bool) → ltb limit (p .at + k + (length part - from)) ≡ b → ltb limit (p .at + k + length (drop from part)) ≡ b
-    count b e = ap (λ (j : ℕ). ltb limit (p .at + k + j)) (length-drop from part) ∙ e
+    count : (b : Bool) → ltb mostBytes (p .at + k + (length part - from)) ≡ b → ltb mostBytes (p .at + k + length (drop from part)) ≡ b
+    count b e = ap (λ (j : ℕ). ltb mostBytes (p .at + k + j)) (length-drop from part) ∙ e
 
     -- each test
     module _ {X : Type 0} (x y z : X) where
-      over : ltb limit (p .at + k + (length part - from)) ≡ true → x ≡ opened p k d part from x y z
+      over : ltb mostBytes (p .at + k + (length part - from)) ≡ true → x ≡ opened p k d part from x y z
       over e = rw (count true e) refl
 
-      small : ltb limit (p .at + k + (length part - from)) ≡ false → length d < 62 → x ≡ opened p k d part from x y z
+      small : ltb mostBytes (p .at + k + (length part - from)) ≡ false → length d < 62 → x ≡ opened p k d part from x y z
       small e h = rw (count false e, lt-ltb (length d) 62 h) refl
 
-      unsound : ltb limit (p .at + k + (length part - from)) ≡ false → 62 ≤ length d → isSound p (take k d) ≡ false → y ≡ opened p k d part from x y z
+      unsound : ltb mostBytes (p .at + k + (length part - from)) ≡ false → 62 ≤ length d → isSound p (take k d) ≡ false → y ≡ opened p k d part from x y z
       unsound e h s = rw (count false e, le-ltb (length d) 62 h, s) refl
 
-      passed : ltb limit (p .at + k + (length part - from)) ≡ false → 62 ≤ length d → isSound p (take k d) ≡ true → z ≡ opened p k d part from x y z
+      passed : ltb mostBytes (p .at + k + (length part - from)) ≡ false → 62 ≤ length d → isSound p (take k d) ≡ true → z ≡ opened p k d part from x y z
       passed e h s = rw (count false e, le-ltb (length d) 62 h, s) refl
 
     abbrev u : Step
@@ -68,19 +68,19 @@ module _ (p : Place) (k : ℕ) (d : List ℕ) where
     abbrev v : Step
     v = S.Stopped (Refused 14 (p .at))
 
-    pub is-over : ltb limit (p .at + k + (length part - from)) ≡ true
+    pub is-over : ltb mostBytes (p .at + k + (length part - from)) ≡ true
         → (S.Stopped (Refused 15 (p .at)) ≡ stepOpen p k d part from) × (d ≡ roomOpen p k d part from)
     is-over e = (over u v (stepOn p k d part from) e, over d d (roomOn k d part from) e)
 
-    pub is-small : ltb limit (p .at + k + (length part - from)) ≡ false → length d < 62
+    pub is-small : ltb mostBytes (p .at + k + (length part - from)) ≡ false → length d < 62
         → (S.Stopped (Refused 15 (p .at)) ≡ stepOpen p k d part from) × (d ≡ roomOpen p k d part from)
     is-small e h = (small u v (stepOn p k d part from) e h, small d d (roomOn k d part from) e h)
 
-    pub is-unsound : ltb limit (p .at + k + (length part - from)) ≡ false → 62 ≤ length d → isSound p (take k d) ≡ false
+    pub is-unsound : ltb mostBytes (p .at + k + (length part - from)) ≡ false → 62 ≤ length d → isSound p (take k d) ≡ false
         → (S.Stopped (Refused 14 (p .at)) ≡ stepOpen p k d part from) × (d ≡ roomOpen p k d part from)
     is-unsound e h s = (unsound u v (stepOn p k d part from) e h s, unsound d d (roomOn k d part from) e h s)
 
-    pub is-passed : ltb limit (p .at + k + (length part - from)) ≡ false → 62 ≤ length d → isSound p (take k d) ≡ true
+    pub is-passed : ltb mostBytes (p .at + k + (length part - from)) ≡ false → 62 ≤ length d → isSound p (take k d) ≡ true
         → (stepOn p k d part from ≡ stepOpen p k d part from) × (roomOn k d part from ≡ roomOpen p k d part from)
     is-passed e h s = (passed u v (stepOn p k d part from) e h s, passed d d (roomOn k d part from) e h s)
 

@@ -9,6 +9,7 @@ use lib.Seq.{drop-drop, drop-at, drop-append-le}
 use lib.Dec.{eqb}
 use borrow.Author.Tests.{le-ltb, eqb-true, eq-eqb}
 use Rattle.facts.proofs.Lists.{take-short}
+use Rattle.text.specs.Pieces.{concat}
 use Rattle.session.specs.declared.record.Record.{Record}
 use Rattle.session.specs.declared.record.Decoded.{Decoded}
 use Rattle.session.specs.declared.record.Decoded.the-variants.{Whole, Offset, Refused}
@@ -19,7 +20,7 @@ use Rattle.session.specs.Limits.{offsetAllowed}
 use Rattle.session.specs.Read.{start}
 use Rattle.session.proofs.Offsets.{at-offset}
 use Rattle.session.proofs.OffsetBack.{stable-at}
-use Rattle.stream.specs.Stream.{refused, Run, stop, behind, joined, endingOf, past, foundAt, wholeFrom, wholeOf, Reader, reading, stopped, Move, got, set, none, limit, seen, moveFor, moveOf, feedIn, feedOf, endOf, partsOf, concat}
+use Rattle.stream.specs.Stream.{refused, Run, stop, withReading, joined, endingOf, past, foundAt, wholeFrom, wholeRun, Reader, reading, stopped, Move, got, set, none, mostBytes, seen, moveFor, moveOf, feedIn, feedOf, endOf, partsOf}
 use Rattle.stream.proofs.Cut.{short, record-past, offset-past}
 use Rattle.stream.proofs.Whole.{found-fits, offset-fits, whole-record, whole-offset, whole-refused}
 
@@ -44,7 +45,7 @@ pub record Goes (x : Reader) (rest : List ℕ) (a : Reading) (n : ℕ) (y : Read
   pub inside : n ≤ length rest
   pub kept : Kept y
   pub count : taken y ≤ taken x + n
-  pub same : (t : List ℕ) → leftOf x (rest ++ t) ≡ behind a (leftOf y (drop n rest ++ t))
+  pub same : (t : List ℕ) → leftOf x (rest ++ t) ≡ withReading a (leftOf y (drop n rest ++ t))
 
 pub record Stays (x : Reader) (rest : List ℕ) (xs : List Reading) (y : Reader) : Type 0 where
   pub kept : Kept y
@@ -92,7 +93,7 @@ module _ (p : Place) (kept rest : List ℕ) (k : Kept (reading p kept)) where
   -- a reading of n bytes
   on : (a : Reading) (q : Place) (n : ℕ) (d : Decoded) → foundAt p (seen kept rest) ≡ d → (d ≡ Refused 11 → ⊥)
       → length kept < n → n ≤ length (seen kept rest) → q .at ≤ p .at + n → offsetAllowed (q .offset) ≡ true
-      → ((s : List ℕ) → foundAt p s ≡ d → wholeFrom p s ≡ behind a (wholeFrom q (drop n s)))
+      → ((s : List ℕ) → foundAt p s ≡ d → wholeFrom p s ≡ withReading a (wholeFrom q (drop n s)))
       → Goes (reading p kept) rest a (n - length kept) (reading q [])
   on a q n d e z l m c o w =
       let u = length-append kept (take (62 - length kept) rest) in
@@ -108,7 +109,7 @@ module _ (p : Place) (kept rest : List ℕ) (k : Kept (reading p kept)) where
             ap (λ (v : ℕ). drop v (kept ++ (rest ++ t))) (sym j) ∙ sym (drop-drop (n - length kept) (length kept) (kept ++ (rest ++ t)))
             ∙ ap (drop (n - length kept)) (drop-at kept (rest ++ t) (length kept) refl)
             ∙ drop-append-le (n - length kept) rest t i in
-            w (kept ++ (rest ++ t)) (certain d e z t) ∙ ap (λ (v : List ℕ). behind a (wholeFrom q v)) f;
+            w (kept ++ (rest ++ t)) (certain d e z t) ∙ ap (λ (v : List ℕ). withReading a (wholeFrom q v)) f;
       }
 
   pub on-record : (r : Record) (n : ℕ) → foundAt p (seen kept rest) ≡ Whole r n → Goes (reading p kept) rest (A.Record r (past p n)) (n - length kept) (reading (past p n) [])
@@ -158,9 +159,9 @@ module _ (p : Place) (kept rest : List ℕ) (k : Kept (reading p kept)) where
   by-decoded (Refused n) e = by-eleven n (eqb n 11) refl e
 
 -- one move
-pub move-law : (x : Reader) (rest : List ℕ) → Kept x → taken x + length rest ≤ limit → After x rest (moveOf x rest)
+pub move-law : (x : Reader) (rest : List ℕ) → Kept x → taken x + length rest ≤ mostBytes → After x rest (moveOf x rest)
 move-law (reading p kept) rest k h =
-    rw (le-ltb limit (p .at + length kept + length rest) h) (by-decoded p kept rest k (foundAt p (seen kept rest)) refl)
+    rw (le-ltb mostBytes (p .at + length kept + length rest) h) (by-decoded p kept rest k (foundAt p (seen kept rest)) refl)
 move-law (stopped e) rest k h = record { kept = tt; count = zero-le; same = λ t. refl }
 
 -- a reading, and all moves behind it
@@ -170,31 +171,31 @@ joins x y z rest a n xs g b =
     record {
       kept = b .kept;
       count = omega (arith, g .count, b .count, g .inside, e);
-      same = λ t. g .same t ∙ ap (behind a) (b .same t);
+      same = λ t. g .same t ∙ ap (withReading a) (b .same t);
     }
 
 -- all moves of a part
-feed-in : (f : ℕ) (x : Reader) (rest : List ℕ) (m : Move) → After x rest m → taken x + length rest ≤ limit → length rest < f
+feed-in : (f : ℕ) (x : Reader) (rest : List ℕ) (m : Move) → After x rest m → taken x + length rest ≤ mostBytes → length rest < f
     → Stays x rest (feedIn f m rest .readings) (feedIn f m rest .reader)
 unfolding feedIn
 feed-in zero x rest m a h l = let w : ⊥ = omega arith in absurd w
 feed-in (suc f) x rest (got r q n) a h l =
     let y = reading q [] in
     let e = length-drop n rest in
-    let o : taken y + length (drop n rest) ≤ limit = omega (arith, a .count, a .inside, e) in
+    let o : taken y + length (drop n rest) ≤ mostBytes = omega (arith, a .count, a .inside, e) in
     let b = feed-in f y (drop n rest) (moveOf y (drop n rest)) (move-law y (drop n rest) (a .kept) o) o (omega (arith, a .some, a .inside, e)) in
     let m = feedIn f (moveOf y (drop n rest)) (drop n rest) in
     joins x y (m .reader) rest (A.Record r q) n (m .readings) a b
 feed-in (suc f) x rest (set q n) a h l =
     let y = reading q [] in
     let e = length-drop n rest in
-    let o : taken y + length (drop n rest) ≤ limit = omega (arith, a .count, a .inside, e) in
+    let o : taken y + length (drop n rest) ≤ mostBytes = omega (arith, a .count, a .inside, e) in
     let b = feed-in f y (drop n rest) (moveOf y (drop n rest)) (move-law y (drop n rest) (a .kept) o) o (omega (arith, a .some, a .inside, e)) in
     let m = feedIn f (moveOf y (drop n rest)) (drop n rest) in
     joins x y (m .reader) rest (A.Offset q) n (m .readings) a b
 feed-in (suc f) x rest (none y) a h l = a
 
-pub feed-law : (x : Reader) (part : List ℕ) → Kept x → taken x + length part ≤ limit
+pub feed-law : (x : Reader) (part : List ℕ) → Kept x → taken x + length part ≤ mostBytes
     → Stays x part (feedOf x part .readings) (feedOf x part .reader)
 feed-law x part k h = feed-in (suc (length part)) x part (moveOf x part) (move-law x part k h) h (omega arith)
 
@@ -202,7 +203,7 @@ pub end-law : (x : Reader) → Kept x → stop (endOf x) ≡ leftOf x []
 end-law (reading p kept) k = sym (ap (wholeFrom p) (append-nil kept) ∙ whole-refused p kept 11 (k .0))
 end-law (stopped e) k = refl
 
-pub parts-law : (ps : List (List ℕ)) (x : Reader) → Kept x → taken x + length (concat ps) ≤ limit → partsOf x ps ≡ leftOf x (concat ps)
+pub parts-law : (ps : List (List ℕ)) (x : Reader) → Kept x → taken x + length (concat ps) ≤ mostBytes → partsOf x ps ≡ leftOf x (concat ps)
 unfolding partsOf concat
 parts-law [] x k h = end-law x k
 parts-law (p ∷ ps) x k h =
@@ -212,5 +213,5 @@ parts-law (p ∷ ps) x k h =
     ∙ sym (a .same (concat ps))
 
 -- wherever a stream of at most 2^63 - 1 bytes is cut: its records, its refusal and the place, and its end are the whole's
-pub any-parts : (ps : List (List ℕ)) → length (concat ps) ≤ limit → partsOf (reading start []) ps ≡ wholeOf (concat ps)
+pub any-parts : (ps : List (List ℕ)) → length (concat ps) ≤ mostBytes → partsOf (reading start []) ps ≡ wholeRun (concat ps)
 any-parts ps h = parts-law ps (reading start []) (refl, refl) (omega arith)

@@ -16,13 +16,13 @@ use Rattle.session.specs.declared.Reading.the-variants.{Record, Offset, End, Re
 use Rattle.session.specs.Limits.{offsetAllowed}
 use Rattle.session.specs.Read.{start, placed, readAt}
 use Rattle.session.proofs.Offsets.{at-offset}
-use Rattle.stream.specs.Stream.{Run, ended, refused, stop, behind, endingOf, past, foundAt, wholeFrom}
+use Rattle.stream.specs.Stream.{Run, ended, refused, stop, withReading, endingOf, past, foundAt, wholeFrom}
 use Rattle.stream.proofs.Whole.{whole-record, whole-offset, whole-refused}
 
 -- what is whole from a place on, by what is read there
 abbrev pub goOn : List ℕ → Reading → Run
-goOn s (Record r q) = behind (Record r q) (wholeFrom q (drop (q .at) s))
-goOn s (Offset q) = behind (Offset q) (wholeFrom q (drop (q .at) s))
+goOn s (Record r q) = withReading (Record r q) (wholeFrom q (drop (q .at) s))
+goOn s (Offset q) = withReading (Offset q) (wholeFrom q (drop (q .at) s))
 goOn s End = stop ended
 goOn s (Refused n q) = stop (refused n (q .at))
 
@@ -40,13 +40,13 @@ apart a b h n = omega (arith, n)
 module _ (s : List ℕ) (p : Place) where
   by-decoded : (d : Decoded) → foundAt p (drop (p .at) s) ≡ d → 0 < length (drop (p .at) s) → wholeFrom p (drop (p .at) s) ≡ goOn s (placed d p)
   by-decoded (D.Whole r n) e h =
-      whole-record p (drop (p .at) s) r n e ∙ ap (λ (l : List ℕ). behind (Record r (past p n)) (wholeFrom (past p n) l)) (drop-drop n (p .at) s)
+      whole-record p (drop (p .at) s) r n e ∙ ap (λ (l : List ℕ). withReading (Record r (past p n)) (wholeFrom (past p n) l)) (drop-drop n (p .at) s)
   by-decoded (D.Offset z) e h =
       let q : Place = record { at = 8; offset = z } in
       let a : p .at ≡ 0 = eqb-true (p .at) 0 (at-offset (eqb (p .at) 0) (drop (p .at) s) z e .first-one) in
       let b : p .at + 8 ≡ 8 = omega (arith, a) in
       whole-offset p q (drop (p .at) s) refl e
-      ∙ ap (λ (l : List ℕ). behind (Offset q) (wholeFrom q l)) (drop-drop 8 (p .at) s ∙ ap (λ (j : ℕ). drop j s) b)
+      ∙ ap (λ (l : List ℕ). withReading (Offset q) (wholeFrom q l)) (drop-drop 8 (p .at) s ∙ ap (λ (j : ℕ). drop j s) b)
   by-decoded (D.Refused n) e h = whole-refused p (drop (p .at) s) n e ∙ ap stop (full (drop (p .at) s) n (p .at) h)
 
   by-end : (b : Bool) → eqb (p .at) (length s) ≡ b → p .at ≤ length s

@@ -13,7 +13,7 @@ use Rattle.session.specs.declared.Place.{Place}
 use Rattle.session.specs.declared.Reading.the-variants as A
 use Rattle.session.proofs.Heads.{whole-fits}
 use Rattle.session.proofs.Offsets.{at-whole, at-offset}
-use Rattle.stream.specs.Stream.{stop, behind, endingOf, past, foundAt, runIn, wholeFrom}
+use Rattle.stream.specs.Stream.{stop, withReading, endingOf, past, foundAt, runIn, wholeFrom}
 
 -- a record that was found lies within the bytes
 pub found-fits : (p : Place) (s : List ℕ) (r : Record) (n : ℕ) → foundAt p s ≡ Whole r n → (30 ≤ n) × (n ≤ length s)
@@ -30,27 +30,27 @@ enough (suc f) zero d p s q h k = let w : ⊥ = omega arith in absurd w
 enough (suc f) (suc g) (Whole r n) p s q h k =
     let w = found-fits p s r n (sym q) in
     let l = length-drop n s in
-    ap (behind (A.Record r (past p n))) (enough f g (foundAt (past p n) (drop n s)) (past p n) (drop n s) refl (omega (arith, w .0, w .1, l)) (omega (arith, w .0, w .1, l)))
+    ap (withReading (A.Record r (past p n))) (enough f g (foundAt (past p n) (drop n s)) (past p n) (drop n s) refl (omega (arith, w .0, w .1, l)) (omega (arith, w .0, w .1, l)))
 enough (suc f) (suc g) (Offset z) p s q h k =
     let w = offset-fits p s z (sym q) in
     let l = length-drop 8 s in
     let o : Place = record { at = 8; offset = z } in
-    ap (behind (A.Offset o)) (enough f g (foundAt o (drop 8 s)) o (drop 8 s) refl (omega (arith, w, l)) (omega (arith, w, l)))
+    ap (withReading (A.Offset o)) (enough f g (foundAt o (drop 8 s)) o (drop 8 s) refl (omega (arith, w, l)) (omega (arith, w, l)))
 enough (suc f) (suc g) (Refused n) p s q h k = refl
 
 -- a record, and what is behind it
 pub whole-record : (p : Place) (s : List ℕ) (r : Record) (n : ℕ) → foundAt p s ≡ Whole r n
-    → wholeFrom p s ≡ behind (A.Record r (past p n)) (wholeFrom (past p n) (drop n s))
+    → wholeFrom p s ≡ withReading (A.Record r (past p n)) (wholeFrom (past p n) (drop n s))
 unfolding runIn
 whole-record p s r n e =
     let w = found-fits p s r n e in
     let l = length-drop n s in
     let m : length (drop n s) < length s = omega (arith, w .0, w .1, l) in
     ap (λ (d : Decoded). runIn (suc (length s)) d p s) e
-    ∙ ap (behind (A.Record r (past p n))) (enough (length s) (suc (length (drop n s))) (foundAt (past p n) (drop n s)) (past p n) (drop n s) refl m (omega arith))
+    ∙ ap (withReading (A.Record r (past p n))) (enough (length s) (suc (length (drop n s))) (foundAt (past p n) (drop n s)) (past p n) (drop n s) refl m (omega arith))
 
 pub whole-offset : (p q : Place) (s : List ℕ) → q .at ≡ 8 → foundAt p s ≡ Offset (q .offset)
-    → wholeFrom p s ≡ behind (A.Offset q) (wholeFrom q (drop 8 s))
+    → wholeFrom p s ≡ withReading (A.Offset q) (wholeFrom q (drop 8 s))
 unfolding runIn
 whole-offset p q s t e =
     let w = offset-fits p s (q .offset) e in
@@ -59,8 +59,8 @@ whole-offset p q s t e =
     let o : Place = record { at = 8; offset = q .offset } in
     let u : o ≡ q = ap (λ (a : ℕ). record { at = a; offset = q .offset }) (sym t) in
     ap (λ (d : Decoded). runIn (suc (length s)) d p s) e
-    ∙ ap (behind (A.Offset o)) (enough (length s) (suc (length (drop 8 s))) (foundAt o (drop 8 s)) o (drop 8 s) refl m (omega arith))
-    ∙ ap (λ (a : Place). behind (A.Offset a) (wholeFrom a (drop 8 s))) u
+    ∙ ap (withReading (A.Offset o)) (enough (length s) (suc (length (drop 8 s))) (foundAt o (drop 8 s)) o (drop 8 s) refl m (omega arith))
+    ∙ ap (λ (a : Place). withReading (A.Offset a) (wholeFrom a (drop 8 s))) u
 
 pub whole-refused : (p : Place) (s : List ℕ) (n : ℕ) → foundAt p s ≡ Refused n → wholeFrom p s ≡ stop (endingOf s n (p .at))
 unfolding runIn

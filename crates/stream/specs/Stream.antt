@@ -32,8 +32,8 @@ pub record Run : Type 0 where
 abbrev pub stop : Ending → Run
 stop e = record { readings = []; ending = e }
 
-abbrev pub behind : Reading → Run → Run
-behind a x = record { readings = a ∷ x .readings; ending = x .ending }
+abbrev pub withReading : Reading → Run → Run
+withReading a x = record { readings = a ∷ x .readings; ending = x .ending }
 
 abbrev pub joined : List Reading → Run → Run
 joined xs x = record { readings = xs ++ x .readings; ending = x .ending }
@@ -56,17 +56,17 @@ foundAt p s = decodeAt (eqb (p .at) 0) s
 unfoldable pub runIn : ℕ → Decoded → Place → List ℕ → Run
 runIn zero d p s = stop ended
 runIn (suc f) (D.Whole r n) p s =
-    behind (A.Record r (past p n)) (runIn f (foundAt (past p n) (drop n s)) (past p n) (drop n s))
+    withReading (A.Record r (past p n)) (runIn f (foundAt (past p n) (drop n s)) (past p n) (drop n s))
 runIn (suc f) (D.Offset z) p s =
-    let q : Place = record { at = 8; offset = z } in behind (A.Offset q) (runIn f (foundAt q (drop 8 s)) q (drop 8 s))
+    let q : Place = record { at = 8; offset = z } in withReading (A.Offset q) (runIn f (foundAt q (drop 8 s)) q (drop 8 s))
 runIn (suc f) (D.Refused n) p s = stop (endingOf s n (p .at))
 
 abbrev pub wholeFrom : Place → List ℕ → Run
 wholeFrom p s = runIn (suc (length s)) (foundAt p s) p s
 
 -- the session's bytes read whole, however many they are
-abbrev pub wholeOf : List ℕ → Run
-wholeOf s = wholeFrom start s
+abbrev pub wholeRun : List ℕ → Run
+wholeRun s = wholeFrom start s
 
 -- A reader of parts: it goes on, with the place of the unfinished record and the bytes it has of it, or it has stopped.
 pub data Reader : Type 0 where
@@ -80,8 +80,8 @@ pub data Move : Type 0 where
   set : Place → ℕ → Move
   none : Reader → Move
 
-abbrev pub limit : ℕ
-limit = 2 ^ 63 - 1
+abbrev pub mostBytes : ℕ
+mostBytes = 2 ^ 63 - 1
 
 -- the bytes that are decoded: those that are kept, and as many of the part as make 62
 abbrev pub seen : List ℕ → List ℕ → List ℕ
@@ -96,7 +96,7 @@ moveFor (D.Refused n) p kept rest = none (cond (eqb n 11) (reading p (kept ++ re
 -- 15 ahead of all but a repeated answer
 abbrev pub moveOf : Reader → List ℕ → Move
 moveOf (reading p kept) rest =
-    cond (ltb limit (p .at + length kept + length rest)) (none (stopped (refused 15 (p .at))))
+    cond (ltb mostBytes (p .at + length kept + length rest)) (none (stopped (refused 15 (p .at))))
     (moveFor (foundAt p (seen kept rest)) p kept rest)
 moveOf (stopped e) rest = none (stopped e)
 
@@ -129,10 +129,6 @@ endOf (stopped e) = e
 unfoldable pub partsOf : Reader → List (List ℕ) → Run
 partsOf x [] = stop (endOf x)
 partsOf x (p ∷ ps) = joined (feedOf x p .readings) (partsOf (feedOf x p .reader) ps)
-
-unfoldable pub concat : List (List ℕ) → List ℕ
-concat [] = []
-concat (p ∷ ps) = p ++ concat ps
 
 -- The reader as code has it: the kept bytes are the front of a room.
 abbrev pub standingOf : Reader → Standing
@@ -172,7 +168,7 @@ roomOn k d part from = put k (take (62 - k) (drop from part)) d
 -- no reader has
 abbrev pub opened : {X : Type 0} → Place → ℕ → List ℕ → List ℕ → ℕ → X → X → X → X
 opened p k d part from x y z =
-    cond (ltb limit (p .at + k + length (drop from part))) x
+    cond (ltb mostBytes (p .at + k + length (drop from part))) x
     (cond (ltb (length d) 62) x (cond (not (isSound p (take k d))) y z))
 
 abbrev pub stepOpen : Place → ℕ → List ℕ → List ℕ → ℕ → Step

@@ -8,7 +8,7 @@ ghost use lib.Dec.{ltb};
 ghost use Rattle.text.specs.Text.{Stands};
 ghost use Rattle.session.specs.Limits.{offsetAllowed};
 ghost use Rattle.session.specs.declared.record.Decoded.the-variants as D;
-ghost use Rattle.stream.specs.Stream.{limit, foundAt, isCut, isSound, stepOpen, roomOpen, stepOn, roomOn, stepOf, roomOf, finishOf};
+ghost use Rattle.stream.specs.Stream.{mostBytes, foundAt, isCut, isSound, stepOpen, roomOpen, stepOn, roomOn, stepOf, roomOf, finishOf};
 use session::Decoded;
 use session::Place;
 use session::Record;
@@ -91,7 +91,7 @@ fn left(size: usize, from: usize) -> usize
 
 // Whether the count passes its limit with the bytes kept and those that are left of the part.
 fn passes(at: usize, kept: usize, left: usize) -> bool
-    ensures { λ r. ⌜ r ≡ ltb limit (at + kept + left) ⌝ }
+    ensures { λ r. ⌜ r ≡ ltb mostBytes (at + kept + left) ⌝ }
 {
     if at > LIMIT {
         return true;
@@ -152,7 +152,7 @@ fn add(kept: usize, room: &mut [u8], part: &[u8], from: usize) -> usize
 
 // The record at the place, which is the first of its session or not, from the kept bytes and the part's.
 fn go_on(place: Place, kept: usize, room: &mut [u8], part: &[u8], from: usize) -> Step
-    requires { ⌜ (62 ≤ length (now room)) × (from ≤ length (now part)) × (kept ≤ length (now room)) × (foundAt place (take kept (now room)) ≡ D.Refused 11) × (offsetAllowed (place .offset) ≡ true) × (place .at + kept + (length (now part) - from) ≤ limit) ⌝ }
+    requires { ⌜ (62 ≤ length (now room)) × (from ≤ length (now part)) × (kept ≤ length (now room)) × (foundAt place (take kept (now room)) ≡ D.Refused 11) × (offsetAllowed (place .offset) ≡ true) × (place .at + kept + (length (now part) - from) ≤ mostBytes) ⌝ }
     ensures { λ r. ⌜ (r ≡ stepOn place kept (now (room .entry)) (now (part .entry)) from) × (now (room .exit) ≡ roomOn kept (now (room .entry)) (now (part .entry)) from) ⌝ }
 {
     let at = place.at;

@@ -11,7 +11,7 @@ use Rattle.facts.proofs.Wholes.{zero-one}
 use Rattle.table.specs.declared.Entry.{Entry}
 use Rattle.table.specs.declared.Test.{Test}
 use Rattle.table.specs.declared.Test.the-variants.{Passed, Failed}
-use Rattle.table.specs.Tests.{meets, firstFailing, Reason, allMeet, numberOf, passes, told, _▷_, applies, firstRow, behind, without, ordered, isRow}
+use Rattle.table.specs.Tests.{meets, firstFailing, Reason, allMeet, testNumber, passes, told, _▷_, applies, firstRow, behindRow, without, ordered}
 
 -- ---- the code's chain is the list's first failing entry
 
@@ -83,11 +83,11 @@ none-fails es h = passed (firstFailing es) (passes-all es ∙ h)
 -- of a row whose entries lead the list: it applies and gives the number, or it can be left out
 record LeftOut (n : ℕ) (es : List Entry) : Type 0 where
   silent : applies n es ≡ false
-  same : firstFailing es ≡ firstFailing (behind n es)
-  others : (m : ℕ) → applies m es ≡ applies m (behind n es)
+  same : firstFailing es ≡ firstFailing (behindRow n es)
+  others : (m : ℕ) → applies m es ≡ applies m (behindRow n es)
 
 data Led (n : ℕ) (es : List Entry) : Type 0 where
-  tells : applies n es ≡ true → numberOf (firstFailing es) ≡ n → Led n es
+  tells : applies n es ≡ true → testNumber (firstFailing es) ≡ n → Led n es
   silent : LeftOut n es → Led n es
 
 quiet : (n : ℕ) (es : List Entry) → without n es ≡ true → applies n es ≡ false
@@ -99,8 +99,8 @@ quiet n (e ∷ es) h = go (quiet n es) (eqb (e .number) n) (meets e) h
     go f false true k = f k
     go f false false k = f k
 
-led : (n : ℕ) (es : List Entry) → without n (behind n es) ≡ true → Led n es
-unfolding firstFailing numberOf
+led : (n : ℕ) (es : List Entry) → without n (behindRow n es) ≡ true → Led n es
+unfolding firstFailing testNumber
 led n [] h = silent (record { silent = refl; same = refl; others = λ m. refl })
 led n (e ∷ es) h = go (led n es) (eqb (e .number) n) refl (meets e) refl
   where
@@ -108,7 +108,7 @@ led n (e ∷ es) h = go (led n es) (eqb (e .number) n) refl (meets e) refl
     more i j (tells a g) = tells (rw j a) (rw j g)
     more i j (silent r) = silent (record { silent = rw j (r .silent); same = rw (i, j) (r .same); others = λ m. rw (i, j) (r .others m) })
 
-    go : (without n (behind n es) ≡ true → Led n es) → (b : Bool) → eqb (e .number) n ≡ b → (c : Bool) → meets e ≡ c → Led n (e ∷ es)
+    go : (without n (behindRow n es) ≡ true → Led n es) → (b : Bool) → eqb (e .number) n ≡ b → (c : Bool) → meets e ≡ c → Led n (e ∷ es)
     go f true i true j = more i j (f (rw i at h))
     go f true i false j = tells (rw (j, i)) (rw j (eqb→eq (e .number) n (subst T (sym i) tt)))
     go f false i c j = silent (record { silent = quiet n (e ∷ es) (rw i at h); same = rw i; others = λ m. rw i })
@@ -118,23 +118,28 @@ unfolding firstRow
 as-rest [] xs ys h = refl
 as-rest (n ∷ ns) xs ys h = rw (h n, as-rest ns xs ys h)
 
-pub first-row : (ns : List ℕ) (es : List Entry) → ordered ns es ≡ true → numberOf (firstFailing es) ≡ firstRow ns es
-unfolding firstFailing numberOf firstRow
+pub first-row : (ns : List ℕ) (es : List Entry) → ordered ns es ≡ true → testNumber (firstFailing es) ≡ firstRow ns es
+unfolding firstFailing testNumber firstRow
 first-row [] [] h = refl
 first-row [] (e ∷ es) h = absurd (false≢true h)
-first-row (n ∷ ns) es h = go (first-row ns (behind n es) (and-1 (without n (behind n es)) (ordered ns (behind n es)) h)) (led n es (and-0 (without n (behind n es)) (ordered ns (behind n es)) h))
+first-row (n ∷ ns) es h = go (first-row ns (behindRow n es) (and-1 (without n (behindRow n es)) (ordered ns (behindRow n es)) h)) (led n es (and-0 (without n (behindRow n es)) (ordered ns (behindRow n es)) h))
   where
-    go : numberOf (firstFailing (behind n es)) ≡ firstRow ns (behind n es) → Led n es → numberOf (firstFailing es) ≡ cond (applies n es) n (firstRow ns es)
+    go : testNumber (firstFailing (behindRow n es)) ≡ firstRow ns (behindRow n es) → Led n es → testNumber (firstFailing es) ≡ cond (applies n es) n (firstRow ns es)
     go k (tells a g) = rw a g
-    go k (silent r) = rw (r .silent) (ap numberOf (r .same) ∙ k ∙ sym (as-rest ns es (behind n es) (r .others)))
+    go k (silent r) = rw (r .silent) (ap testNumber (r .same) ∙ k ∙ sym (as-rest ns es (behindRow n es) (r .others)))
+
+-- every entry is of row n
+abbrev pub isRow : ℕ → List Entry → Bool
+isRow n [] = true
+isRow n (e ∷ es) = eqb (e .number) n && isRow n es
 
 -- the entries of one row, and others behind them: its number unless all of it is met
-pub row-then : (n : ℕ) (xs ys : List Entry) → isRow n xs ≡ true → numberOf (firstFailing (xs ++ ys)) ≡ cond (allMeet xs) (numberOf (firstFailing ys)) n
-unfolding firstFailing numberOf
+pub row-then : (n : ℕ) (xs ys : List Entry) → isRow n xs ≡ true → testNumber (firstFailing (xs ++ ys)) ≡ cond (allMeet xs) (testNumber (firstFailing ys)) n
+unfolding firstFailing testNumber
 row-then n [] ys h = refl
 row-then n (e ∷ xs) ys h = go (row-then n xs ys (and-1 (eqb (e .number) n) (isRow n xs) h)) (meets e)
   where
-    go : numberOf (firstFailing (xs ++ ys)) ≡ cond (allMeet xs) (numberOf (firstFailing ys)) n → (b : Bool) → numberOf (cond b (firstFailing (xs ++ ys)) (Failed e)) ≡ cond (b && allMeet xs) (numberOf (firstFailing ys)) n
+    go : testNumber (firstFailing (xs ++ ys)) ≡ cond (allMeet xs) (testNumber (firstFailing ys)) n → (b : Bool) → testNumber (cond b (firstFailing (xs ++ ys)) (Failed e)) ≡ cond (b && allMeet xs) (testNumber (firstFailing ys)) n
     go k true = k
     go k false = eqb→eq (e .number) n (subst T (sym (and-0 (eqb (e .number) n) (isRow n xs) h)) tt)
 

@@ -21,18 +21,18 @@ abbrev pub entry : ℕ → Name → Part → Float → Limit → Entry
 entry number name part amount limit = record { number = number; name = name; part = part; amount = amount; limit = limit }
 
 -- whether an amount is what it must be
-abbrev pub within : Limit → Float → Bool
-within Finite x = finite x
-within (AtLeast b) x = b ≤ᶠ x
-within (AtMost b) x = x ≤ᶠ b
-within (Under b) x = x <ᶠ b
-within (Over b) x = b <ᶠ x
-within (SizeAtMost b) x = sizeOf x ≤ᶠ b
-within (SizeUnder b) x = sizeOf x <ᶠ b
-within (OneWithin b) x = sizeOf (x ⊖ f1) ≤ᶠ b
+abbrev pub satisfies : Limit → Float → Bool
+satisfies Finite x = finite x
+satisfies (AtLeast b) x = b ≤ᶠ x
+satisfies (AtMost b) x = x ≤ᶠ b
+satisfies (Under b) x = x <ᶠ b
+satisfies (Over b) x = b <ᶠ x
+satisfies (SizeAtMost b) x = sizeOf x ≤ᶠ b
+satisfies (SizeUnder b) x = sizeOf x <ᶠ b
+satisfies (OneWithin b) x = sizeOf (x ⊖ f1) ≤ᶠ b
 
 abbrev pub meets : Entry → Bool
-meets e = within (e .limit) (e .amount)
+meets e = satisfies (e .limit) (e .amount)
 
 -- ---- a list of entries
 
@@ -55,9 +55,9 @@ pub record Reason (es : List Entry) (e : Entry) : Type 0 where
   pub fails : meets e ≡ false
 
 -- the refusal's number, and 0 where no test fails
-unfoldable pub numberOf : Test → ℕ
-numberOf Passed = 0
-numberOf (Failed e) = e .number
+unfoldable pub testNumber : Test → ℕ
+testNumber Passed = 0
+testNumber (Failed e) = e .number
 
 unfoldable pub passes : Test → Bool
 passes Passed = true
@@ -90,9 +90,9 @@ abbrev pub tableOrder : List ℕ
 tableOrder = 1 ∷ 2 ∷ 3 ∷ 4 ∷ 5 ∷ 10 ∷ 6 ∷ 19 ∷ []
 
 -- the entries behind the leading ones of row n; and that none is of row n
-abbrev pub behind : ℕ → List Entry → List Entry
-behind n [] = []
-behind n (e ∷ es) = cond (eqb (e .number) n) (behind n es) (e ∷ es)
+abbrev pub behindRow : ℕ → List Entry → List Entry
+behindRow n [] = []
+behindRow n (e ∷ es) = cond (eqb (e .number) n) (behindRow n es) (e ∷ es)
 
 abbrev pub without : ℕ → List Entry → Bool
 without n [] = true
@@ -102,9 +102,4 @@ without n (e ∷ es) = not (eqb (e .number) n) && without n es
 abbrev pub ordered : List ℕ → List Entry → Bool
 ordered [] [] = true
 ordered [] (e ∷ es) = false
-ordered (n ∷ ns) es = without n (behind n es) && ordered ns (behind n es)
-
--- every entry is of row n
-abbrev pub isRow : ℕ → List Entry → Bool
-isRow n [] = true
-isRow n (e ∷ es) = eqb (e .number) n && isRow n es
+ordered (n ∷ ns) es = without n (behindRow n es) && ordered ns (behindRow n es)

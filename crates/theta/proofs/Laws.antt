@@ -33,13 +33,13 @@ use Rattle.theta.specs.declared.Timed.{Timed}
 use Rattle.theta.specs.declared.TransferTime.{TransferTime}
 use Rattle.theta.specs.declared.TransferTime.the-variants.{Time}
 use Rattle.conic.specs.Conic.{straightRow}
-use Rattle.theta.specs.Theta.{sweepOf, inputRows, angleRow, derivedRow, thetaTests, arcOf, toldOf, answered, thetaOf, numberOf}
+use Rattle.theta.specs.Theta.{sweepOf, inputRows, angleRow, derivedRow, thetaTests, arcOf, transferTimeBy, answered, thetaOf, transferTimeNumber}
 
 -- ---- the answer's number
 
 -- tests that give a number other than 0 give the answer's
-refused : (t : Test) (x : TransferTime) (n : ℕ) → Tests.numberOf t ≡ suc n → numberOf (answered t x) ≡ suc n
-unfolding answered numberOf Tests.numberOf
+refused : (t : Test) (x : TransferTime) (n : ℕ) → Tests.testNumber t ≡ suc n → transferTimeNumber (answered t x) ≡ suc n
+unfolding answered transferTimeNumber Tests.testNumber
 refused Passed x n h = absurd (omega arith)
 refused (Failed e) x n h = h
 
@@ -66,18 +66,18 @@ module _ (mu : Float) (s : State) (sin cos : Float) where
   tests = thetaTests mu s sin cos S
 
   -- the number of the first row that applies, in the order of the table
-  pub theta-table : numberOf (thetaOf mu s sin cos) ≡ cond (Tests.passes (firstFailing tests)) (numberOf (toldOf s (reachOf (arcOf mu S)))) (firstRow tableOrder tests)
-  unfolding answered numberOf Tests.passes Tests.numberOf
+  pub theta-table : transferTimeNumber (thetaOf mu s sin cos) ≡ cond (Tests.passes (firstFailing tests)) (transferTimeNumber (transferTimeBy s (reachOf (arcOf mu S)))) (firstRow tableOrder tests)
+  unfolding answered transferTimeNumber Tests.passes Tests.testNumber
   theta-table =
       by-tests (firstFailing tests)
-      ∙ ap (λ (n : ℕ). cond (Tests.passes (firstFailing tests)) (numberOf (toldOf s (reachOf (arcOf mu S)))) n) (first-row tableOrder tests refl)
+      ∙ ap (λ (n : ℕ). cond (Tests.passes (firstFailing tests)) (transferTimeNumber (transferTimeBy s (reachOf (arcOf mu S)))) n) (first-row tableOrder tests refl)
     where
-      by-tests : (p : Test) → numberOf (answered p (toldOf s (reachOf (arcOf mu S)))) ≡ cond (Tests.passes p) (numberOf (toldOf s (reachOf (arcOf mu S)))) (Tests.numberOf p)
+      by-tests : (p : Test) → transferTimeNumber (answered p (transferTimeBy s (reachOf (arcOf mu S)))) ≡ cond (Tests.passes p) (transferTimeNumber (transferTimeBy s (reachOf (arcOf mu S)))) (Tests.testNumber p)
       by-tests Passed = refl
       by-tests (Failed e) = refl
 
   -- an input that is infinite or not a number is refused with 1, whatever else holds
-  pub theta-not-finite : (finite mu && allFinite (positionOf s) && allFinite (velocityOf s) && finite sin && finite cos) ≡ false → numberOf (thetaOf mu s sin cos) ≡ 1
+  pub theta-not-finite : (finite mu && allFinite (positionOf s) && allFinite (velocityOf s) && finite sin && finite cos) ≡ false → transferTimeNumber (thetaOf mu s sin cos) ≡ 1
   theta-not-finite h =
       let inputs : List Entry = finiteInputs mu Position (positionOf s) Velocity (velocityOf s) in
       let angle : List Entry = finiteNumber Sin sin ++ finiteNumber Cos cos in
@@ -85,16 +85,16 @@ module _ (mu : Float) (s : State) (sin cos : Float) where
       let known : allMeet (inputs ++ angle) ≡ false =
       meet-both inputs angle ∙ two-more (inputs-finite mu Position Velocity (positionOf s) (velocityOf s)) (finite sin) (finite cos) ∙ h
       in
-      refused (firstFailing tests) _ 0 (row-then 1 (inputs ++ angle) behind refl ∙ ap (λ (b : Bool). cond b (Tests.numberOf (firstFailing behind)) 1) known)
+      refused (firstFailing tests) _ 0 (row-then 1 (inputs ++ angle) behind refl ∙ ap (λ (b : Bool). cond b (Tests.testNumber (firstFailing behind)) 1) known)
 
   -- r×v has length 0: 6, where the rows ahead pass
-  pub theta-zero : allMeet (inputRows mu s sin cos (S .r1) ++ angleRow S) ≡ true → Ieee.eq (lengthOf (crossOf (positionOf s) (velocityOf s))) f0 ≡ true → numberOf (thetaOf mu s sin cos) ≡ 6
+  pub theta-zero : allMeet (inputRows mu s sin cos (S .r1) ++ angleRow S) ≡ true → Ieee.eq (lengthOf (crossOf (positionOf s) (velocityOf s))) f0 ≡ true → transferTimeNumber (thetaOf mu s sin cos) ≡ 6
   theta-zero g h =
       let e : allMeet (derivedRow S) ≡ false = cot-fails S (divided-by-zero (dotOf (positionOf s) (velocityOf s)) (lengthOf (crossOf (positionOf s) (velocityOf s))) h) in
       refused (firstFailing tests) _ 5
-      (ap Tests.numberOf (met-then (inputRows mu s sin cos (S .r1) ++ angleRow S) (derivedRow S ++ straightRow (S .pn)) g)
+      (ap Tests.testNumber (met-then (inputRows mu s sin cos (S .r1) ++ angleRow S) (derivedRow S ++ straightRow (S .pn)) g)
       ∙ row-then 6 (derivedRow S) (straightRow (S .pn)) refl
-      ∙ ap (λ (b : Bool). cond b (Tests.numberOf (firstFailing (straightRow (S .pn)))) 6) e)
+      ∙ ap (λ (b : Bool). cond b (Tests.testNumber (firstFailing (straightRow (S .pn)))) 6) e)
 
 -- ---- what is handed out with a time
 
@@ -109,8 +109,8 @@ unfolding answered
 answered-time Passed x z e = (refl, e)
 answered-time (Failed f) x z e = (cc, cc)
 
-told-time : (s : State) (r : Reached) (z : Timed) → toldOf s r ≡ Time z → (r ≡ R.Time (z .time)) × (z .state ≡ s)
-unfolding toldOf
+told-time : (s : State) (r : Reached) (z : Timed) → transferTimeBy s r ≡ Time z → (r ≡ R.Time (z .time)) × (z .state ≡ s)
+unfolding transferTimeBy
 told-time s (R.Time t) z e =
     let k : record { time = t; state = s } ≡ z = cc in
     (ap (λ (x : Timed). R.Time (x .time)) k, sym (ap (λ (x : Timed). x .state) k))

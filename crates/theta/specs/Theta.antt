@@ -69,10 +69,10 @@ arcOf mu d = record {
 }
 
 -- over is 7, too long; under is 8, too short
-unfoldable pub toldOf : State → Reached → TransferTime
-toldOf s (R.Time t) = Time (record { time = t; state = s })
-toldOf s (R.Under e) = TooShort
-toldOf s (R.Over e) = TooLong
+unfoldable pub transferTimeBy : State → Reached → TransferTime
+transferTimeBy s (R.Time t) = Time (record { time = t; state = s })
+transferTimeBy s (R.Under e) = TooShort
+transferTimeBy s (R.Over e) = TooLong
 
 -- a refusal keeps the number of the test that failed
 unfoldable pub answered : Test → TransferTime → TransferTime
@@ -80,14 +80,14 @@ answered Passed x = x
 answered (Failed e) x = Refused (e .number)
 
 abbrev pub thetaFrom : Float → State → Float → Float → Sweep → TransferTime
-thetaFrom mu s sin cos d = answered (firstFailing (thetaTests mu s sin cos d)) (toldOf s (reachOf (arcOf mu d)))
+thetaFrom mu s sin cos d = answered (firstFailing (thetaTests mu s sin cos d)) (transferTimeBy s (reachOf (arcOf mu d)))
 
 abbrev pub thetaOf : Float → State → Float → Float → TransferTime
 thetaOf mu s sin cos = thetaFrom mu s sin cos (sweepOf mu s sin cos)
 
 -- the refusal's number, and 0 for a time
-unfoldable pub numberOf : TransferTime → ℕ
-numberOf (Time t) = 0
-numberOf TooLong = 7
-numberOf TooShort = 8
-numberOf (Refused n) = n
+unfoldable pub transferTimeNumber : TransferTime → ℕ
+transferTimeNumber (Time t) = 0
+transferTimeNumber TooLong = 7
+transferTimeNumber TooShort = 8
+transferTimeNumber (Refused n) = n

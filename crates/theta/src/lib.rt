@@ -8,7 +8,7 @@ use vector::State;
 ghost use mathlib.Core.Path.{_≡_};
 ghost use Rattle.table.specs.declared.Test.the-variants.{Passed};
 ghost use Rattle.table.specs.Tests.{_▷_, firstFailing};
-ghost use Rattle.theta.specs.Theta.{sweepOf, inputRows, angleRow, derivedRow, thetaTests, arcOf, toldOf, thetaOf};
+ghost use Rattle.theta.specs.Theta.{sweepOf, inputRows, angleRow, derivedRow, thetaTests, arcOf, transferTimeBy, thetaOf};
 
 // The derived numbers: excess is (cos² + sin²) − 1, versine is 1 − cos, pn is p_N, and cothalf is sin/(1 − cos).
 pub struct Sweep {
@@ -121,7 +121,7 @@ pub fn arc_of(mu: f64, d: Sweep) -> Arc
 
 // Over is too long, under too short.
 fn told(s: State, r: Reached) -> TransferTime
-    ensures { λ x. ⌜ x ≡ toldOf s r ⌝ }
+    ensures { λ x. ⌜ x ≡ transferTimeBy s r ⌝ }
 {
     match r {
         Reached::Time(time) => TransferTime::Time(Timed { time, state: s }),

@@ -15,7 +15,7 @@ use Rattle.settings.specs.declared.allowed.Setting.{Setting}
 use Rattle.settings.specs.declared.Looked.{Looked}
 use Rattle.settings.specs.declared.Looked.the-variants.{Found, Refused}
 use Rattle.settings.specs.History.{lookUp}
-use Rattle.versions.specs.Versions.{constantPieces, versionPieces, lookedPieces, foundThen, linesFrom, listBy}
+use Rattle.versions.specs.Versions.{constantPieces, versionPieces, lookedPieces, foundThen, versionLines, listBy}
 
 constants-short : (x : Setting) → size (constantPieces x) ≤ 188
 unfolding constantPieces
@@ -43,10 +43,10 @@ unfolding concat
 found-short (Found x) k n rest h = simp (concat-append, length-append) (omega (arith, version-short k x))
 found-short (Refused m) k n rest h = zero-le
 
-lines-short : (n k : ℕ) (s : List ℕ) → size (linesFrom n k s) ≤ 242 * n
-unfolding linesFrom concat
+lines-short : (n k : ℕ) (s : List ℕ) → size (versionLines n k s) ≤ 242 * n
+unfolding versionLines concat
 lines-short zero k s = zero-le
-lines-short (suc n) k s = found-short (lookUp s k) k n (linesFrom n (suc k) s) (lines-short n (suc k) s)
+lines-short (suc n) k s = found-short (lookUp s k) k n (versionLines n (suc k) s) (lines-short n (suc k) s)
 
 refused-list : (b : Bool) (n : ℕ) → size (cond b [] (refusedPieces n)) ≤ 16384
 unfolding concat

@@ -40,13 +40,13 @@ foundThen (Found x) k rest = versionPieces k x ++ rest
 foundThen (Refused n) k rest = []
 
 -- at most n versions, from version k on
-unfoldable pub linesFrom : ℕ → ℕ → List ℕ → List (List ℕ)
-linesFrom zero k s = []
-linesFrom (suc n) k s = foundThen (lookUp s k) k (linesFrom n (suc k) s)
+unfoldable pub versionLines : ℕ → ℕ → List ℕ → List (List ℕ)
+versionLines zero k s = []
+versionLines (suc n) k s = foundThen (lookUp s k) k (versionLines n (suc k) s)
 
 -- a line a version; no line where there is no version; the line of the refusal where the used part is refused
 unfoldable pub listBy : Looked → List ℕ → List (List ℕ)
-listBy (Found x) s = linesFrom 64 1 s
+listBy (Found x) s = versionLines 64 1 s
 listBy (Refused n) s = cond (eqb n 23) [] (refusedPieces n)
 
 abbrev pub listPieces : List ℕ → List (List ℕ)

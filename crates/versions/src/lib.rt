@@ -1,7 +1,7 @@
 // The settings' versions as lines, each made at the front of a lent buffer whose bytes past them stay.
 ghost use Rattle.text.specs.Text.{InFront};
 ghost use Rattle.text.specs.Pieces.{Laid};
-ghost use Rattle.versions.specs.Versions.{constantPieces, versionPieces, lookedPieces, linesFrom, listPieces, showRoom, showText, listRoom, listText};
+ghost use Rattle.versions.specs.Versions.{constantPieces, versionPieces, lookedPieces, versionLines, listPieces, showRoom, showText, listRoom, listText};
 use settings::Looked;
 use settings::Setting;
 use text::Made;
@@ -52,7 +52,7 @@ pub fn show(s: &[u8], k: u64, buf: &mut [u8]) -> Made
 
 // The versions of a used part one after another, up to the first that is refused.
 fn lines(s: &[u8], buf: &mut [u8]) -> usize
-    ensures { λ r. ⌜ Laid (now (buf .entry)) 0 (linesFrom 64 1 (now (s .entry))) (now (buf .exit)) r ⌝ }
+    ensures { λ r. ⌜ Laid (now (buf .entry)) 0 (versionLines 64 1 (now (s .entry))) (now (buf .exit)) r ⌝ }
 {
     let mut e = 0;
     let mut k: u64 = 1;

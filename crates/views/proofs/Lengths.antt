@@ -35,7 +35,7 @@ points-short p =
     ))
 
 pub wheel-fits : (a : Elevation) → size (wheelPieces a) ≤ 512
-wheel-fits (E.At d) = direction-short d
+wheel-fits (E.Angle d) = direction-short d
 wheel-fits (E.Refused n) = refused-fits n
 
 pub sight-fits : (a : Sight) → size (sightPieces a) ≤ 512

@@ -26,7 +26,7 @@ pointsPieces p =
     ++ endPieces (p .larger ∷ p .smaller ∷ f .x ∷ f .y ∷ f .z ∷ s .x ∷ s .y ∷ s .z ∷ [])))
 
 abbrev pub wheelPieces : Elevation → List (List ℕ)
-wheelPieces (E.At d) = directionPieces d
+wheelPieces (E.Angle d) = directionPieces d
 wheelPieces (E.Refused n) = refusedPieces n
 
 abbrev pub sightPieces : Sight → List (List ℕ)

@@ -38,7 +38,7 @@ pub fn tell_wheel(buf: &mut [u8], a: Elevation) -> usize
     ensures { λ r. ⌜ Laid (now (buf .entry)) 0 (wheelPieces a) (now (buf .exit)) r ⌝ }
 {
     match a {
-        Elevation::At(d) => direction(buf, d),
+        Elevation::Angle(d) => direction(buf, d),
         Elevation::Refused(n) => columns::refused(buf, n),
     }
 }

@@ -1,29 +1,16 @@
--- The law of each turn of `feed`, and that a line lies within its buffer. Assumes nothing.
-use Prim.Native.Nat.{ℕ, _≤_}
-use native.Mathlib.Omega.{arith}
-use mathlib.Core.Path.{_≡_, ap, _∙_}
+-- The law of each turn of `feed`. Assumes nothing.
+use Prim.Native.Nat.{ℕ}
+use mathlib.Core.Path.{_≡_}
 use mathlib.Core.List.{List, []}
-use lib.ListN.{length, drop, length-append}
-use borrow.Author.Tests.{le-ltb}
 use Rattle.session.specs.declared.record.Record.{Record}
 use Rattle.session.specs.declared.Place.{Place}
 use Rattle.session.specs.declared.Reading.{Reading}
-use Rattle.lines.specs.declared.line.Made.{Made}
-use Rattle.lines.specs.declared.line.Made.the-variants.{Line}
-use Rattle.lines.specs.Lines.{InFront}
 use Rattle.stream.specs.declared.Standing.{Standing}
 use Rattle.stream.specs.declared.Standing.the-variants.{Open}
 use Rattle.stream.specs.declared.Step.the-variants as S
 use Rattle.stream.specs.Stream.{stepOf, roomOf}
 use Rattle.stream.specs.Calls.{Calls, last, next, sets}
 use Rattle.watch.specs.Feeds.{Fed-by}
-
-pub line-inside : (x d e : List ℕ) (r : Made) (n : ℕ) → 40 ≤ length d → InFront x d e r → r ≡ Line n → n ≤ length e
-line-inside x d e r n h m q =
-    let a = rw (le-ltb (length d) 40 h) at (m .answer) in
-    let b = rw (le-ltb (length d) 40 h) at (m .buffer) in
-    let s : n ≡ length x = cc in
-    omega (arith, ap length b ∙ length-append x (drop (length x) d))
 
 -- what the calls from here on lead to, the calls of the whole part lead to
 pub record Leads (x : Standing) (d part : List ℕ) (y : Standing) (e : List ℕ) (from : ℕ) : Type 0 where

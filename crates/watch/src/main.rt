@@ -2,41 +2,25 @@
 // as its record is whole, and a refusal as soon as it is certain, though the input stays open. The reading is in `stream`,
 // the lines are in `follow`.
 use libc::STDIN_FILENO;
-use libc::STDOUT_FILENO;
-use lines::Made;
 use session::Place;
 use stream::Standing;
 use stream::Step;
-ghost use Prim.Native.Nat.{_≤_};
-ghost use lib.ListN.{length};
+use text::Made;
 ghost use Rattle.watch.specs.Feeds.{Feeds};
-
-// Writes the front of a line buffer to standard output, and answers whether that went well; else standard error says so.
-fn write(line: &[u8], n: usize) -> bool
-    requires { ⌜ n ≤ length (now line) ⌝ }
-{
-    if n == 0 {
-        return true;
-    }
-    let is_written = io::write_all(STDOUT_FILENO, &line[..n]);
-    if !is_written {
-        os::fail(b"standard output");
-    }
-    is_written
-}
 
 fn write_heading() -> bool {
     let mut line = [0u8; 40];
     match lines::heading(&mut line) {
-        Made::Line(n) => write(&line, n),
+        Made::Line(n) => console::print(&line[..n]),
         Made::Refused(_) => false,
     }
 }
 
+// Where the step has no line, nothing is written.
 fn write_step(step: Step) -> bool {
     let mut line = [0u8; 40];
     match follow::step_line(&mut line, step) {
-        Made::Line(n) => write(&line, n),
+        Made::Line(n) => console::print(&line[..n]),
         Made::Refused(_) => false,
     }
 }

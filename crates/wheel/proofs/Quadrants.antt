@@ -6,24 +6,24 @@ use native.Mathlib.Omega.{arith}
 use lib.Dec.{leb, ltb}
 use lib.IntN.{pos, negℤ}
 use borrow.Author.Tests.{leb-true, leb-false, ltb-true, ltb-false, le-leb, lt-leb, lt-ltb, le-ltb}
-use Rattle.wheel.specs.Sines.{entryOf}
+use Rattle.wheel.specs.Sines.{sineEntry}
 use Rattle.wheel.specs.Wheel.{signedSine, onBy}
 
-pub first : (e : ℕ) → e ≤ 900 → signedSine e ≡ pos (entryOf e)
+pub first : (e : ℕ) → e ≤ 900 → signedSine e ≡ pos (sineEntry e)
 unfolding signedSine
 first e h = rw (le-leb e 900 h)
 
-pub second : (e : ℕ) → 900 < e → e ≤ 1800 → signedSine e ≡ pos (entryOf (1800 - e))
+pub second : (e : ℕ) → 900 < e → e ≤ 1800 → signedSine e ≡ pos (sineEntry (1800 - e))
 unfolding signedSine
 second e g h = rw (lt-leb e 900 g, le-leb e 1800 h)
 
-pub third : (e : ℕ) → 1800 < e → e ≤ 2700 → signedSine e ≡ negℤ (pos (entryOf (e - 1800)))
+pub third : (e : ℕ) → 1800 < e → e ≤ 2700 → signedSine e ≡ negℤ (pos (sineEntry (e - 1800)))
 unfolding signedSine
 third e g h =
     let l : 900 < e = omega arith in
     rw (lt-leb e 900 l, lt-leb e 1800 g, le-leb e 2700 h)
 
-pub fourth : (e : ℕ) → 2700 < e → signedSine e ≡ negℤ (pos (entryOf (3600 - e)))
+pub fourth : (e : ℕ) → 2700 < e → signedSine e ≡ negℤ (pos (sineEntry (3600 - e)))
 unfolding signedSine
 fourth e g =
     let l : 900 < e = omega arith in

@@ -12,7 +12,7 @@ use lib.Ieee.Fits.{down-pos}
 use lib.Ieee.Exact.{HasValue, round-exact}
 use Rattle.real.specs.F64.{two^, _⊘_}
 use Rattle.real.proofs.Bounds.{Within, AtLeast, round-below, div-within}
-use Rattle.wheel.specs.Sines.{entryOf}
+use Rattle.wheel.specs.Sines.{sineEntry}
 use Rattle.wheel.specs.Wheel.{signedSine, signedCosine, onBy, overOf}
 use Rattle.wheel.proofs.Entries.{at-most}
 use Rattle.wheel.proofs.Turns.{negative}
@@ -31,8 +31,8 @@ sine-most e l = go (quadrant e)
     go : Quadrant e → Small (signedSine e)
     go (q1 h) = subst Small (sym (first e h)) (at-most e h)
     go (q2 g h) = subst Small (sym (second e g h)) (at-most (1800 - e) (omega arith))
-    go (q3 g h) = subst Small (sym (third e g h)) (turned (entryOf (e - 1800)) (at-most (e - 1800) (omega arith)))
-    go (q4 g) = subst Small (sym (fourth e g)) (turned (entryOf (3600 - e)) (at-most (3600 - e) (omega arith)))
+    go (q3 g h) = subst Small (sym (third e g h)) (turned (sineEntry (e - 1800)) (at-most (e - 1800) (omega arith)))
+    go (q4 g) = subst Small (sym (fourth e g)) (turned (sineEntry (3600 - e)) (at-most (3600 - e) (omega arith)))
 
 whole-within : (z : ℤ) → natAbs z ≤ 1073741824 → Within (ofInt binary64 z) (1073741824 * 1)
 unfolding ofInt

@@ -9,21 +9,21 @@ use native.Mathlib.Omega.{arith}
 use lib.Dec.{eqb, ltb}
 use lib.IntN.{ℤ, pos, negsuc, negℤ, natAbs, negℤ-negℤ}
 use borrow.Author.Tests.{eqb-true, eqb-false, lt-ltb, le-ltb}
-use Rattle.wheel.specs.Sines.{nestOf, sineOf, entryOf}
+use Rattle.wheel.specs.Sines.{nestOf, sineOf, sineEntry}
 use Rattle.wheel.specs.Wheel.{signedSine, signedCosine, onBy}
 use Rattle.wheel.proofs.Entries.{strict-growth, Near, squares, sum-of-squares}
 use Rattle.wheel.proofs.Quadrants.{first, second, third, fourth, on-short, on-round, Quadrant, q1, q2, q3, q4, quadrant}
 
-entry-0 : entryOf 0 ≡ 0
-unfolding nestOf sineOf entryOf
+entry-0 : sineEntry 0 ≡ 0
+unfolding nestOf sineOf sineEntry
 entry-0 = refl
 
 -- the signed entries
 abbrev plus : ℕ → ℤ
-plus k = pos (entryOf k)
+plus k = pos (sineEntry k)
 
 abbrev minus : ℕ → ℤ
-minus k = negℤ (pos (entryOf k))
+minus k = negℤ (pos (sineEntry k))
 
 minus-0 : minus 0 ≡ plus 0
 minus-0 = rw entry-0
@@ -36,7 +36,7 @@ negative (negsuc n) = true
 
 minus-negative : (k : ℕ) → 0 < k → k ≤ 900 → negative (minus k) ≡ true
 minus-negative zero h l = absurd (lt-irrefl 0 h)
-minus-negative (suc k) h l = go (entryOf (suc k)) (some (entryOf k) (entryOf (suc k)) (strict-growth k (omega arith)))
+minus-negative (suc k) h l = go (sineEntry (suc k)) (some (sineEntry k) (sineEntry (suc k)) (strict-growth k (omega arith)))
   where
     some : (a b : ℕ) → a < b → 0 < b
     some a b h = omega arith
@@ -146,9 +146,9 @@ cosine-4 e g h =
     ap signedSine (on-round 900 e (omega arith) ∙ s) ∙ first (900 - (3600 - e)) (omega arith)
 
 -- the two sizes are the entries of some k and of 900 − k
-one-circle : (s c : ℤ) (k : ℕ) → k ≤ 900 → natAbs s ≡ entryOf k → natAbs c ≡ entryOf (900 - k) → Near (squares (natAbs s) (natAbs c))
+one-circle : (s c : ℤ) (k : ℕ) → k ≤ 900 → natAbs s ≡ sineEntry k → natAbs c ≡ sineEntry (900 - k) → Near (squares (natAbs s) (natAbs c))
 one-circle s c k h p q =
-    subst (λ (m : ℕ). Near (squares m (natAbs c))) (sym p) (subst (λ (m : ℕ). Near (squares (entryOf k) m)) (sym q) (sum-of-squares k h))
+    subst (λ (m : ℕ). Near (squares m (natAbs c))) (sym p) (subst (λ (m : ℕ). Near (squares (sineEntry k) m)) (sym q) (sum-of-squares k h))
 
 pub signed-squares : (e : ℕ) → e < 3600 → Near (squares (natAbs (signedSine e)) (natAbs (signedCosine e)))
 signed-squares e l = go (quadrant e)
@@ -157,10 +157,10 @@ signed-squares e l = go (quadrant e)
     go (q1 h) = one-circle (signedSine e) (signedCosine e) e h (ap natAbs (first e h)) (ap natAbs (cosine-1 e h))
     go (q2 g h) =
         one-circle (signedSine e) (signedCosine e) (1800 - e) (omega arith)
-        (ap natAbs (second e g h)) (ap natAbs (cosine-2 e g h) ∙ size-minus (entryOf (900 - (1800 - e))))
+        (ap natAbs (second e g h)) (ap natAbs (cosine-2 e g h) ∙ size-minus (sineEntry (900 - (1800 - e))))
     go (q3 g h) =
         one-circle (signedSine e) (signedCosine e) (e - 1800) (omega arith)
-        (ap natAbs (third e g h) ∙ size-minus (entryOf (e - 1800))) (ap natAbs (cosine-3 e g h) ∙ size-minus (entryOf (900 - (e - 1800))))
+        (ap natAbs (third e g h) ∙ size-minus (sineEntry (e - 1800))) (ap natAbs (cosine-3 e g h) ∙ size-minus (sineEntry (900 - (e - 1800))))
     go (q4 g) =
         one-circle (signedSine e) (signedCosine e) (3600 - e) (omega arith)
-        (ap natAbs (fourth e g) ∙ size-minus (entryOf (3600 - e))) (ap natAbs (cosine-4 e g l))
+        (ap natAbs (fourth e g) ∙ size-minus (sineEntry (3600 - e))) (ap natAbs (cosine-4 e g l))

@@ -12,7 +12,7 @@ pub struct Direction {
 }
 
 pub enum Elevation {
-    At(Direction),
+    Angle(Direction),
     Refused(u32),
 }
 
@@ -64,7 +64,7 @@ pub fn wheel(e: u64) -> Elevation
     ensures { λ r. ⌜ r ≡ wheelOf e ⌝ }
 {
     if e < 3600 {
-        return Elevation::At(direction_at(e));
+        return Elevation::Angle(direction_at(e));
     }
     Elevation::Refused(16)
 }

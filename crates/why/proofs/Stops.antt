@@ -80,11 +80,11 @@ outside-fails xi n h = go (leastXi ≤ᶠ xi) refl
     go true e = (refl, values (xi ≤ᶠ mostXi) e refl)
     go false e = (refl, e)
 
-point-fails : (o : Orbit) (x xi : Float) (e : Entry) → pointAt o x xi ≡ T.Out e → Fails 7 e
+point-fails : (o : Orbit) (x xi : Float) (e : Entry) → pointAt o x xi ≡ T.Stopped e → Fails 7 e
 unfolding pointAt trialOf
 point-fails o x xi e h = go (bothAnswer xi) refl h
   where
-    go : (b : Both) → bothAnswer xi ≡ b → trialOf o x xi b ≡ T.Out e → Fails 7 e
+    go : (b : Both) → bothAnswer xi ≡ b → trialOf o x xi b ≡ T.Stopped e → Fails 7 e
     go (B.Refused n) k h = let i : outsideOf xi ≡ e = cc in subst (Fails 7) i (outside-fails xi n k)
     go (B.Values p) k h = let z : _≡_ {A = ℕ} 0 1 = cc in absurd (zero-one z)
 
@@ -97,14 +97,14 @@ one : (c : Bool) (x y : Reached) → (c ≡ true → Stops x) → Stops y → St
 one true x y h k = h refl
 one false x y h k = k
 
-timed-stops : (r : Trial) → ((e : Entry) → r ≡ T.Out e → Fails 7 e) → Stops (timed r)
+timed-stops : (r : Trial) → ((e : Entry) → r ≡ T.Stopped e → Fails 7 e) → Stops (timed r)
 unfolding timed
-timed-stops (T.At p) h = go (inTime (p .t)) refl
+timed-stops (T.Numbers p) h = go (inTime (p .t)) refl
   where
     go : (b : Bool) → inTime (p .t) ≡ b → Stops (cond b (H.Time (p .t)) (overBy TrialTime (p .t) (L.SizeAtMost (two^ 28))))
     go true e = tt
     go false e = time-fails (p .t) e
-timed-stops (T.Out e) h = h e refl
+timed-stops (T.Stopped e) h = h e refl
 
 judged-stops : (a : Arc) (rootp x xi : Float) → Stops (judgedX a rootp x xi)
 unfolding judgedX
@@ -155,8 +155,8 @@ kepler-fails m n e h = go (K.trialAt m n) refl h
     by-time t false k h = let i : rangeTest 7 TrialTime t (L.SizeAtMost (two^ 28)) ≡ e = cc in subst (λ (x : Entry). meets x ≡ false) i (time-fails t k .1)
 
     go : (r : Trial) → K.trialAt m n ≡ r → K.stoppedBy r ≡ Failed e → meets e ≡ false
-    go (T.At p) k h = by-time (p .t) (inTime (p .t)) refl h
-    go (T.Out f) k h = let i : f ≡ e = cc in subst (λ (x : Entry). meets x ≡ false) i (point-fails (m .orbit) (gridOf n) (m .alpha ⊗ (gridOf n ⊗ gridOf n)) f k .1)
+    go (T.Numbers p) k h = by-time (p .t) (inTime (p .t)) refl h
+    go (T.Stopped f) k h = let i : f ≡ e = cc in subst (λ (x : Entry). meets x ≡ false) i (point-fails (m .orbit) (gridOf n) (m .alpha ⊗ (gridOf n ⊗ gridOf n)) f k .1)
 
 lambert-fails : (r : Reached) (e : Entry) → Stops r → M.stoppedBy r ≡ Failed e → meets e ≡ false
 unfolding M.stoppedBy
@@ -203,12 +203,12 @@ in-time-timed asked t e h = go (inTime t) (t ≤ᶠ asked) e h
 
 kepler-passed : (asked : Float) (r : Trial) → K.stoppedBy r ≡ Passed → Timeless (K.judgedTrial asked r) → ⊥
 unfolding K.stoppedBy K.judgedTrial
-kepler-passed asked (T.At p) e h = go (inTime (p .t)) refl e
+kepler-passed asked (T.Numbers p) e h = go (inTime (p .t)) refl e
   where
     go : (b : Bool) → inTime (p .t) ≡ b → cond b Passed (Failed (rangeTest 7 TrialTime (p .t) (L.SizeAtMost (two^ 28)))) ≡ Passed → ⊥
     go true k e = in-time-timed asked (p .t) k h
     go false k e = let z : _≡_ {A = ℕ} 0 1 = cc in zero-one z
-kepler-passed asked (T.Out f) e h = let z : _≡_ {A = ℕ} 0 1 = cc in zero-one z
+kepler-passed asked (T.Stopped f) e h = let z : _≡_ {A = ℕ} 0 1 = cc in zero-one z
 
 -- a time that steps 1 to 7 hand out is within its range
 transfer-in : (d : Transfer) (cot t : Float) → M.reachAt d cot ≡ H.Time t → inTime t ≡ true

@@ -14,14 +14,14 @@ use Rattle.iterator.specs.declared.Bracket.{Bracket}
 use Rattle.iterator.specs.declared.Beginning.{Beginning}
 use Rattle.kepler.specs.declared.Motion.{Motion}
 use Rattle.kepler.specs.declared.Arrival.{Arrival}
-use Rattle.kepler.specs.declared.Arrival.the-variants.{At, Out}
+use Rattle.kepler.specs.declared.Arrival.the-variants.{InRange, OutOfRange}
 use Rattle.kepler.specs.Kepler.{turnedOf, arrivalOf}
 use Rattle.reach.specs.declared.Reached.{Reached}
 use Rattle.reach.specs.declared.Reached.the-variants as H
 use Rattle.reach.specs.Reach.{reachOf}
 use Rattle.lambert.specs.declared.Way.{Way}
 use Rattle.lambert.specs.declared.Transfer.{Transfer}
-use Rattle.lambert.specs.Lambert.{transferOf, velocityOf, resultRow}
+use Rattle.lambert.specs.Lambert.{transferOf, velocityAt, resultRow}
 use Rattle.theta.specs.declared.Sweep.{Sweep}
 use Rattle.theta.specs.Theta.{sweepOf, thetaTests, arcOf}
 use Rattle.apsides.specs.Apsides.{shapeOf, apsidesTests}
@@ -64,29 +64,29 @@ unfoldable pub toldOf : Problem → Bracket → Told
 toldOf problem b = cond (more b) (T.Not (R.NotFinished b)) (toldBy problem b (b .below) (b .above))
 
 -- 9, of the state at the lower neighbour
-unfoldable pub arrivalBy : Arrival → Neighbours → Reason
-arrivalBy (At s) n = R.Between n
-arrivalBy (Out e) n = R.Test e
+unfoldable pub arrivalReason : Arrival → Neighbours → Reason
+arrivalReason (InRange s) n = R.Between n
+arrivalReason (OutOfRange e) n = R.Test e
 
-unfoldable pub arrivedBy : Motion → State → Told → Reason
-arrivedBy m from (T.Timed n) = arrivalBy (arrivalOf m from (n .lo)) n
-arrivedBy m from (T.Not r) = r
+unfoldable pub toldAdvance : Motion → State → Told → Reason
+toldAdvance m from (T.Timed n) = arrivalReason (arrivalOf m from (n .lo)) n
+toldAdvance m from (T.Not r) = r
 
 -- 9, of the velocity there
-unfoldable pub rangeBy : Test → Neighbours → Reason
-rangeBy Passed n = R.Between n
-rangeBy (Failed e) n = R.Test e
+unfoldable pub velocityReason : Test → Neighbours → Reason
+velocityReason Passed n = R.Between n
+velocityReason (Failed e) n = R.Test e
 
-unfoldable pub movedBy : Transfer → Told → Reason
-movedBy d (T.Timed n) = rangeBy (firstFailing (resultRow (velocityOf d (n .lo)))) n
-movedBy d (T.Not r) = r
+unfoldable pub toldTransfer : Transfer → Told → Reason
+toldTransfer d (T.Timed n) = velocityReason (firstFailing (resultRow (velocityAt d (n .lo)))) n
+toldTransfer d (T.Not r) = r
 
 -- ---- the four solves
 
 unfoldable pub advanceReason : Ended → Motion → State → Reason
 advanceReason (E.Refused e) m from = R.Test e
 advanceReason (E.Wrong a) m from = R.Amiss a
-advanceReason (E.At b) m from = arrivedBy m from (toldOf (Kepler m) b)
+advanceReason (E.At b) m from = toldAdvance m from (toldOf (Kepler m) b)
 
 abbrev pub whyAdvance : Float → State → Float → ℕ → Beginning → Reason
 whyAdvance mu s t limit g = advanceReason (keplerEnded mu s t limit g) (motionFor mu s t) (turnedOf t s)
@@ -94,7 +94,7 @@ whyAdvance mu s t limit g = advanceReason (keplerEnded mu s t limit g) (motionFo
 unfoldable pub transferReason : Ended → Transfer → Reason
 transferReason (E.Refused e) d = R.Test e
 transferReason (E.Wrong a) d = R.Amiss a
-transferReason (E.At b) d = movedBy d (toldOf (Lambert d) b)
+transferReason (E.At b) d = toldTransfer d (toldOf (Lambert d) b)
 
 abbrev pub whyTransfer : Float → Vector → Vector → Way → Float → ℕ → Beginning → Reason
 whyTransfer mu first second way t limit g = transferReason (lambertEnded mu first second way t limit g) (transferOf mu first second way)

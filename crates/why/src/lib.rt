@@ -17,7 +17,7 @@ use vector::Vector;
 ghost use mathlib.Core.Path.{_≡_};
 ghost use Rattle.iterator.specs.Single.{moreLeft};
 ghost use Rattle.iterator.specs.Run.{more};
-ghost use Rattle.why.specs.Why.{shortBy, toldOf, arrivedBy, movedBy, whyAdvance, whyTransfer, whyTime, whyApsides};
+ghost use Rattle.why.specs.Why.{shortBy, toldOf, toldAdvance, toldTransfer, whyAdvance, whyTransfer, whyTime, whyApsides};
 
 // The neighbours with their times, or why there are no two.
 enum Told {
@@ -62,21 +62,21 @@ fn tell(problem: Problem, b: Bracket) -> Told
 }
 
 // Row 9 of the state at the lower neighbour.
-fn arrived(m: Motion, from: State, x: Told) -> Reason
-    ensures { λ r. ⌜ r ≡ arrivedBy m from x ⌝ }
+fn told_advance(m: Motion, from: State, x: Told) -> Reason
+    ensures { λ r. ⌜ r ≡ toldAdvance m from x ⌝ }
 {
     match x {
         Told::Not(r) => r,
         Told::Timed(n) => match kepler::arrive(m, from, n.lo) {
-            Arrival::At(_) => Reason::Between(n),
-            Arrival::Out(e) => Reason::Test(e),
+            Arrival::InRange(_) => Reason::Between(n),
+            Arrival::OutOfRange(e) => Reason::Test(e),
         },
     }
 }
 
 // Row 9 of the velocity there.
-fn moved(d: Transfer, x: Told) -> Reason
-    ensures { λ r. ⌜ r ≡ movedBy d x ⌝ }
+fn told_transfer(d: Transfer, x: Told) -> Reason
+    ensures { λ r. ⌜ r ≡ toldTransfer d x ⌝ }
 {
     match x {
         Told::Not(r) => r,
@@ -97,7 +97,7 @@ pub fn advance(mu: f64, s: State, t: f64, limit: u64, g: Beginning) -> Reason
         Ended::At(b) => {
             let from = kepler::turned(t, s);
             let m = kepler::motion_of(mu, from);
-            arrived(m, from, tell(Problem::Kepler(m), b))
+            told_advance(m, from, tell(Problem::Kepler(m), b))
         }
     }
 }
@@ -119,7 +119,7 @@ pub fn transfer_velocity(
         Ended::Wrong(a) => Reason::Amiss(a),
         Ended::At(b) => {
             let d = lambert::transfer_of(mu, first, second, way);
-            moved(d, tell(Problem::Lambert(d), b))
+            told_transfer(d, tell(Problem::Lambert(d), b))
         }
     }
 }

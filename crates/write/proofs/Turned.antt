@@ -10,9 +10,9 @@ use Rattle.split.specs.Calls.{last}
 use Rattle.split.proofs.Calls.{line-law, calls-law}
 use Rattle.entry.specs.Entries.{entryOf}
 use Rattle.enter.specs.Enter.{sessionOf}
-use Rattle.book.specs.declared.Turn.{Turn}
-use Rattle.book.specs.declared.Turn.the-variants.{Going, Unread, Refused}
-use Rattle.book.specs.Book.{turnOf, turnsOf, writtenBy}
+use Rattle.book.specs.declared.Progress.{Progress}
+use Rattle.book.specs.declared.Progress.the-variants.{Going, Unread, Refused}
+use Rattle.book.specs.Book.{progressOf, progressOver, writtenBy}
 use Rattle.book.proofs.Laws.{turns-none, turns-more, turns-unread, turns-refused, turn-within}
 use Rattle.write.specs.declared.Fed.the-variants as F
 use Rattle.write.specs.Feed.{rowsOf, Feeds}
@@ -24,7 +24,7 @@ pub record Left (s l : List ℕ) (k : ℕ) (d : List ℕ) (at count : ℕ) (e : 
   pub size : length e ≡ length l
   pub within : place ≤ length f
   pub wide : length f ≡ length d
-  pub turns : turnsOf (rowsFrom (length e) (take m e) (drop from s) .lines) f (Going place n) ≡ turnsOf (rowsOf s l k .lines) d (Going at count)
+  pub turns : progressOver (rowsFrom (length e) (take m e) (drop from s) .lines) f (Going place n) ≡ progressOver (rowsOf s l k .lines) d (Going at count)
   pub written : writtenBy (rowsFrom (length e) (take m e) (drop from s) .lines) f (Going place n) ≡ writtenBy (rowsOf s l k .lines) d (Going at count)
   pub kept : rowsFrom (length e) (take m e) (drop from s) .kept ≡ rowsOf s l k .kept
 
@@ -47,15 +47,15 @@ module _ {s l : List ℕ} {k : ℕ} {d : List ℕ} {at count : ℕ} {e : List �
     pub line-forth : (from < b) × (b ≤ length s)
     line-forth = let y = line-law e m s from z b q (a .inside) (a .start) in (y .forth, y .inside)
 
-    module _ {t : Turn} {h : List ℕ} (u : t ≡ turnOf f place n (take z g)) (v : h ≡ sessionOf f place (entryOf (take z g))) where
-      next-turns : turnsOf (behind .lines) h t ≡ turnsOf (rowsOf s l k .lines) d (Going at count)
+    module _ {t : Progress} {h : List ℕ} (u : t ≡ progressOf f place n (take z g)) (v : h ≡ sessionOf f place (entryOf (take z g))) where
+      next-turns : progressOver (behind .lines) h t ≡ progressOver (rowsOf s l k .lines) d (Going at count)
       next-turns =
           let y = line-law e m s from z b q (a .inside) (a .start) in
           let x = ap (λ (i : List ℕ). take z i) r in
           let p = turns-more f place n (take z (roomOf e m (drop from s))) (behind .lines) in
-          ap (λ (i : List ℕ). turnsOf (behind .lines) i t) v ∙ ap (turnsOf (behind .lines) (sessionOf f place (entryOf (take z g)))) u
-          ∙ ap (λ (i : List ℕ). turnsOf (behind .lines) (sessionOf f place (entryOf i)) (turnOf f place n i)) x
-          ∙ sym (p .0) ∙ sym (ap (λ (i : Rows). turnsOf (i .lines) f (Going place n)) (y .rows)) ∙ a .turns
+          ap (λ (i : List ℕ). progressOver (behind .lines) i t) v ∙ ap (progressOver (behind .lines) (sessionOf f place (entryOf (take z g)))) u
+          ∙ ap (λ (i : List ℕ). progressOver (behind .lines) (sessionOf f place (entryOf i)) (progressOf f place n i)) x
+          ∙ sym (p .0) ∙ sym (ap (λ (i : Rows). progressOver (i .lines) f (Going place n)) (y .rows)) ∙ a .turns
 
       next-written : writtenBy (behind .lines) h t ≡ writtenBy (rowsOf s l k .lines) d (Going at count)
       next-written =
@@ -63,7 +63,7 @@ module _ {s l : List ℕ} {k : ℕ} {d : List ℕ} {at count : ℕ} {e : List �
           let x = ap (λ (i : List ℕ). take z i) r in
           let p = turns-more f place n (take z (roomOf e m (drop from s))) (behind .lines) in
           ap (λ (i : List ℕ). writtenBy (behind .lines) i t) v ∙ ap (writtenBy (behind .lines) (sessionOf f place (entryOf (take z g)))) u
-          ∙ ap (λ (i : List ℕ). writtenBy (behind .lines) (sessionOf f place (entryOf i)) (turnOf f place n i)) x
+          ∙ ap (λ (i : List ℕ). writtenBy (behind .lines) (sessionOf f place (entryOf i)) (progressOf f place n i)) x
           ∙ sym (p .1) ∙ sym (ap (λ (i : Rows). writtenBy (i .lines) f (Going place n)) (y .rows)) ∙ a .written
 
       -- the line was entered: on to the next
@@ -77,17 +77,17 @@ module _ {s l : List ℕ} {k : ℕ} {d : List ℕ} {at count : ℕ} {e : List �
             size = line-size;
             within = rw c (turn-within f place n (take z g) i j (a .within) (sym u ∙ w));
             wide = c ∙ a .wide;
-            turns = sym (ap (λ (x : ℕ). turnsOf (rowsFrom x [] (drop b s) .lines) h (Going i j)) o) ∙ sym (ap (turnsOf (behind .lines) h) w) ∙ next-turns;
+            turns = sym (ap (λ (x : ℕ). progressOver (rowsFrom x [] (drop b s) .lines) h (Going i j)) o) ∙ sym (ap (progressOver (behind .lines) h) w) ∙ next-turns;
             written = sym (ap (λ (x : ℕ). writtenBy (rowsFrom x [] (drop b s) .lines) h (Going i j)) o) ∙ sym (ap (writtenBy (behind .lines) h) w) ∙ next-written;
             kept = sym (ap (λ (x : ℕ). rowsFrom x [] (drop b s) .kept) o) ∙ sym (ap (λ (x : Rows). x .kept) (y .rows)) ∙ a .kept;
           }
 
       -- or it ended all
-      pub ends-unread : (i j : ℕ) → t ≡ Unread i j → turnsOf (rowsOf s l k .lines) d (Going at count) ≡ Unread i j
-      ends-unread i j w = sym next-turns ∙ ap (turnsOf (behind .lines) h) w ∙ turns-unread h i j (behind .lines)
+      pub ends-unread : (i j : ℕ) → t ≡ Unread i j → progressOver (rowsOf s l k .lines) d (Going at count) ≡ Unread i j
+      ends-unread i j w = sym next-turns ∙ ap (progressOver (behind .lines) h) w ∙ turns-unread h i j (behind .lines)
 
-      pub ends-refused : (i j : ℕ) → t ≡ Refused i j → turnsOf (rowsOf s l k .lines) d (Going at count) ≡ Refused i j
-      ends-refused i j w = sym next-turns ∙ ap (turnsOf (behind .lines) h) w ∙ turns-refused h i j (behind .lines)
+      pub ends-refused : (i j : ℕ) → t ≡ Refused i j → progressOver (rowsOf s l k .lines) d (Going at count) ≡ Refused i j
+      ends-refused i j w = sym next-turns ∙ ap (progressOver (behind .lines) h) w ∙ turns-refused h i j (behind .lines)
 
   -- no newline more
   pub rest : (z : ℕ) → Kept z ≡ foundOf e m from (drop from s) → (length g ≡ length l) × (z ≤ length g) × Feeds s l k d at count g f (F.Kept z place n)
@@ -98,7 +98,7 @@ module _ {s l : List ℕ} {k : ℕ} {d : List ℕ} {at count : ℕ} {e : List �
         ap length r ∙ y .size ∙ a .size,
         rw r (y .inside),
         (
-          sym (a .turns) ∙ ap (λ (i : Rows). turnsOf (i .lines) f (Going place n)) x ∙ p .0,
+          sym (a .turns) ∙ ap (λ (i : Rows). progressOver (i .lines) f (Going place n)) x ∙ p .0,
           sym (p .1) ∙ sym (ap (λ (i : Rows). writtenBy (i .lines) f (Going place n)) x) ∙ a .written,
           ap (take z) r ∙ sym (ap (λ (i : Rows). i .kept) x) ∙ a .kept,
         ),

@@ -4,8 +4,8 @@ use mathlib.Core.Path.{_≡_}
 use mathlib.Core.List.{List}
 use lib.ListN.{length, take}
 use Rattle.split.specs.Split.{Rows, rowsFrom}
-use Rattle.book.specs.declared.Turn.the-variants.{Going}
-use Rattle.book.specs.Book.{turnsOf, writtenBy}
+use Rattle.book.specs.declared.Progress.the-variants.{Going}
+use Rattle.book.specs.Book.{progressOver, writtenBy}
 use Rattle.write.specs.declared.Taken.{Taken}
 use Rattle.write.specs.declared.Taken.the-variants.{More, Done}
 use Rattle.write.specs.declared.Fed.{Fed}
@@ -27,5 +27,5 @@ rowsOf s l k = rowsFrom (length l) (take k l) s
 -- they are entered into the session d, which makes e, and the room keeps what is behind them; or one of them ends it
 abbrev pub Feeds : List ℕ → List ℕ → ℕ → List ℕ → ℕ → ℕ → List ℕ → List ℕ → Fed → Type 0
 Feeds s l k d at count m e (Kept n place lines) =
-    (turnsOf (rowsOf s l k .lines) d (Going at count) ≡ Going place lines) × (e ≡ writtenBy (rowsOf s l k .lines) d (Going at count)) × (take n m ≡ rowsOf s l k .kept)
-Feeds s l k d at count m e (Stopped t) = turnsOf (rowsOf s l k .lines) d (Going at count) ≡ t
+    (progressOver (rowsOf s l k .lines) d (Going at count) ≡ Going place lines) × (e ≡ writtenBy (rowsOf s l k .lines) d (Going at count)) × (take n m ≡ rowsOf s l k .kept)
+Feeds s l k d at count m e (Stopped t) = progressOver (rowsOf s l k .lines) d (Going at count) ≡ t

@@ -1,9 +1,8 @@
 // A session's text on standard input, its bytes on standard output: all of them at the end of the input, and none where
 // a line cannot be read or is refused. Standard error then names the line.
-use book::Turn;
+use book::Progress;
 use libc::STDERR_FILENO;
 use libc::STDIN_FILENO;
-use libc::STDOUT_FILENO;
 use split::Found;
 use text::Made;
 ghost use Prim.Native.Nat.{_≤_};
@@ -17,7 +16,7 @@ const KEPT: usize = 1001;
 // how many lines were read; or what ended it.
 enum Fed {
     Kept(usize, usize, u64),
-    Stopped(Turn),
+    Stopped(Progress),
 }
 
 // Enters the lines that end in the input.
@@ -40,12 +39,12 @@ fn feed(
         match split::next_line(line, k, input, from) {
             Found::Line(size, behind) => {
                 match book::add(session, place, n, &line[..size]) {
-                    Turn::Going(a, m) => {
+                    Progress::Going(a, m) => {
                         place = a;
                         n = m;
                     }
-                    Turn::Unread(l, w) => return Fed::Stopped(Turn::Unread(l, w)),
-                    Turn::Refused(l, x) => return Fed::Stopped(Turn::Refused(l, x)),
+                    Progress::Unread(l, w) => return Fed::Stopped(Progress::Unread(l, w)),
+                    Progress::Refused(l, x) => return Fed::Stopped(Progress::Refused(l, x)),
                 }
                 k = 0;
                 from = behind;
@@ -56,7 +55,7 @@ fn feed(
 }
 
 // Says which line ended it.
-fn complain(t: Turn) {
+fn complain(t: Progress) {
     let mut buf = [0u8; 64];
     match book::tell(t, &mut buf) {
         Made::Line(n) => {
@@ -66,24 +65,17 @@ fn complain(t: Turn) {
     }
 }
 
-// Writes the session to standard output; where that fails, standard error says so.
-fn put(session: &[u8], n: usize)
-    requires { ⌜ n ≤ length (now session) ⌝ }
-{
-    if !io::write_all(STDOUT_FILENO, &session[..n]) {
-        os::fail(b"standard output");
-    }
-}
-
 // The end of the input: what is kept is a line with no newline, which may be empty.
 fn finish(session: &mut [u8], at: usize, count: u64, rest: &[u8])
     requires { ⌜ at ≤ length (now session) ⌝ }
 {
     let t = book::add(session, at, count, rest);
     match t {
-        Turn::Going(n, _) => put(session, n),
-        Turn::Unread(_, _) => complain(t),
-        Turn::Refused(_, _) => complain(t),
+        Progress::Going(n, _) => {
+            console::print(&session[..n]);
+        }
+        Progress::Unread(_, _) => complain(t),
+        Progress::Refused(_, _) => complain(t),
     }
 }
 

@@ -15,7 +15,7 @@ use Rattle.session.specs.declared.record.Record.{Record}
 use Rattle.session.specs.declared.record.Record.the-variants as R
 use Rattle.field.specs.Bytes.{bytesLe, bitsOf, shortBits}
 use Rattle.session.specs.Limits.{timeAllowed}
-use Rattle.session.specs.Kinds.{numberOf, lengthOf, topOf}
+use Rattle.session.specs.Kinds.{kindNumber, recordLength, topOf}
 use Rattle.session.specs.Layout.{kindIn, vehicleIn, byteIn, timeIn, numbersIn, allFinite, numberBytes, bytesOf}
 use Rattle.session.specs.Offset.{offsetBytes}
 use Rattle.session.specs.Decode.{allowedIn}
@@ -95,7 +95,7 @@ parts l k v b t p h g =
     ap (λ (n : ℕ). bytesLe 2 l ++ (bytesLe 2 k ++ ((n ∷ (b % 256) ∷ bytesLe 8 t) ++ p))) x
     ∙ ap (λ (n : ℕ). bytesLe 2 l ++ (bytesLe 2 k ++ ((v ∷ n ∷ bytesLe 8 t) ++ p))) y
 
-pub record-bytes : (r : Record) {l k v b t : ℕ} → l ≡ lengthOf (kindIn r) → k ≡ numberOf (kindIn r) → v ≡ vehicleIn r → b ≡ byteIn r → t ≡ bitsOf (timeIn r)
+pub record-bytes : (r : Record) {l k v b t : ℕ} → l ≡ recordLength (kindIn r) → k ≡ kindNumber (kindIn r) → v ≡ vehicleIn r → b ≡ byteIn r → t ≡ bitsOf (timeIn r)
     → v < 256 → b < 256 → bytesLe 2 l ++ (restBytes k v b t ++ numberBytes (numbersIn r)) ≡ bytesOf r
 record-bytes r {l} {k} {v} {b} {t} el ek ev eb et h g =
     parts l k v b t (numberBytes (numbersIn r)) h g

@@ -2,7 +2,7 @@
 ghost use Prim.Native.Nat.{_+_, _≤_};
 ghost use mathlib.Core.Path.{_≡_};
 ghost use lib.ListN.{length};
-ghost use Rattle.session.specs.Kinds.{numberOf, lengthOf};
+ghost use Rattle.session.specs.Kinds.{kindNumber, recordLength};
 ghost use Rattle.session.specs.Layout.{kindIn, vehicleIn, byteIn, timeIn, bytesOf};
 ghost use Rattle.session.specs.Decode.{allowedIn};
 ghost use Rattle.text.specs.Text.{Stands};
@@ -28,7 +28,7 @@ pub struct Header {
 }
 
 fn header_of(r: Record) -> Header
-    ensures { λ h. ⌜ (h .length ≡ lengthOf (kindIn r)) × (h .number ≡ numberOf (kindIn r)) × (h .vehicle ≡ vehicleIn r) × (h .byte ≡ byteIn r) × (h .time ≡ timeIn r) ⌝ }
+    ensures { λ h. ⌜ (h .length ≡ recordLength (kindIn r)) × (h .number ≡ kindNumber (kindIn r)) × (h .vehicle ≡ vehicleIn r) × (h .byte ≡ byteIn r) × (h .time ≡ timeIn r) ⌝ }
 {
     match r {
         Record::State(x) => Header {
@@ -97,7 +97,7 @@ fn put_rest(buf: &mut [u8], at: usize, number: u64, vehicle: u8, byte: u8, time:
 }
 
 fn put_record(buf: &mut [u8], at: usize, r: Record) -> usize
-    requires { ⌜ at + lengthOf (kindIn r) ≤ length (now buf) ⌝ }
+    requires { ⌜ at + recordLength (kindIn r) ≤ length (now buf) ⌝ }
     ensures { λ n. ⌜ Stands (now (buf .entry)) at (bytesOf r) (now (buf .exit)) n ⌝ }
 {
     let h = header_of(r);

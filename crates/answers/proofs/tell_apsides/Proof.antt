@@ -1,5 +1,5 @@
 -- By the answer's case. Assumes nothing.
-use Rattle.apsides.specs.Apsides.{numberOf}
+use Rattle.apsides.specs.Apsides.{apsidesNumber}
 use borrow.Author.Needs.{needs}
 use Rattle.answers.proofs.tell_apsides.Statement.{statement}
 use Rattle.answers.proofs.tell_apsides.Tie as tie
@@ -41,7 +41,7 @@ same-length-3 : tie.Need-same-length-3
 same-length-3 c = search needs
 
 returns-3 : tie.Need-returns-3
-unfolding numberOf
+unfolding apsidesNumber
 returns-3 c = rw (c .before .before .before .before .before .a3 .given .1) (c .before .before .refused .ensures)
 
 pub tell-apsides-spec : {M : Type 1} → statement M

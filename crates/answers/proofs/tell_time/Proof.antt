@@ -1,5 +1,5 @@
 -- By the answer's case. Assumes nothing.
-use Rattle.theta.specs.Theta.{numberOf}
+use Rattle.theta.specs.Theta.{transferTimeNumber}
 use borrow.Author.Needs.{needs}
 use Rattle.answers.proofs.tell_time.Statement.{statement}
 use Rattle.answers.proofs.tell_time.Tie as tie
@@ -41,21 +41,21 @@ same-length-2 : tie.Need-same-length-2
 same-length-2 c = search needs
 
 returns-2 : tie.Need-returns-2
-unfolding numberOf
+unfolding transferTimeNumber
 returns-2 c = rw (c .before .before .before .before .enum-told .given .1) (c .before .before .refused .ensures)
 
 same-length-3 : tie.Need-same-length-3
 same-length-3 c = search needs
 
 returns-3 : tie.Need-returns-3
-unfolding numberOf
+unfolding transferTimeNumber
 returns-3 c = rw (c .before .before .before .before .enum-told2 .given .1) (c .before .before .refused2 .ensures)
 
 same-length-4 : tie.Need-same-length-4
 same-length-4 c = search needs
 
 returns-4 : tie.Need-returns-4
-unfolding numberOf
+unfolding transferTimeNumber
 returns-4 c = rw (c .before .before .before .before .before .a2 .given .1) (c .before .before .refused3 .ensures)
 
 pub tell-time-spec : {M : Type 1} → statement M

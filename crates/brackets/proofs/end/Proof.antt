@@ -2,7 +2,7 @@
 use mir.Syntax.{w64}
 use mir.Facts.{toZ-ofZ}
 use Rattle.text.specs.Pieces.{then}
-use Rattle.brackets.specs.Brackets.{endPieces}
+use Rattle.brackets.specs.Brackets.{bracketEndPieces}
 use borrow.Author.Needs.{needs}
 use Rattle.brackets.proofs.end.Statement.{statement}
 use Rattle.brackets.proofs.end.Tie as tie
@@ -23,7 +23,7 @@ same-length : tie.Need-same-length
 same-length c = search needs
 
 returns : tie.Need-returns
-unfolding endPieces
+unfolding bracketEndPieces
 returns c =
     let s = c .before .before .before .before .before .before .before .before .before .before .before .before .before .before .before .before .before in
     let z = toZ-ofZ {w = w64} {z = s .args .n} (s .fits .n) in

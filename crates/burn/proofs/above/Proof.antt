@@ -3,7 +3,7 @@ use mathlib.Core.Path.{ap, _∙_}
 use lib.Ieee.{Float}
 use Rattle.vector.specs.Vectors.{lengthOf}
 use Rattle.coelliptic.specs.Coelliptic.{axisOf}
-use Rattle.burn.specs.Burn.{besideOf, aboveOf}
+use Rattle.burn.specs.Burn.{besideOf, coellipticOf}
 use borrow.Author.Needs.{needs}
 use Rattle.burn.proofs.above.Statement.{statement}
 use Rattle.burn.proofs.above.Tie as tie
@@ -21,7 +21,7 @@ beside-requires : tie.Need-beside-requires
 beside-requires c κs = search needs
 
 returns : tie.Need-returns
-unfolding aboveOf
+unfolding coellipticOf
 returns c = let l = c .before .before in
     let a = l .before .before .args in
     c .beside .ensures

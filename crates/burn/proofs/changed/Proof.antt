@@ -4,7 +4,7 @@ use Rattle.vector.specs.declared.Vector.{Vector}
 use Rattle.vector.specs.Vectors.{positionOf, stateOf, differenceOf}
 use Rattle.apsides.specs.declared.Apsides.{Apsides}
 use Rattle.apsides.specs.Apsides.{apsidesOf}
-use Rattle.burn.specs.Burn.{judgedOf, changedOf}
+use Rattle.burn.specs.Burn.{clearedOf, changedOf}
 use borrow.Author.Needs.{needs}
 use Rattle.burn.proofs.changed.Statement.{statement}
 use Rattle.burn.proofs.changed.Tie as tie
@@ -33,8 +33,8 @@ returns c = let p = c .before .before .before in
     let d = p .before in
     let a = d .before .before .args in
     c .judged .ensures
-    ∙ ap (λ (x : Apsides). judgedOf (a .k) (d .difference .result) x) (c .before .periapo .ensures ∙ ap (apsidesOf (a .k .mu)) (c .before .before .state-of .ensures ∙ ap (λ (r : Vector). stateOf r (a .new)) (p .position .ensures)))
-    ∙ ap (λ (x : Vector). judgedOf (a .k) x (apsidesOf (a .k .mu) (stateOf (positionOf (a .active)) (a .new)))) (d .difference .ensures ∙ ap (differenceOf (a .new)) (d .before .velocity .ensures))
+    ∙ ap (λ (x : Apsides). clearedOf (a .k) (d .difference .result) x) (c .before .periapo .ensures ∙ ap (apsidesOf (a .k .mu)) (c .before .before .state-of .ensures ∙ ap (λ (r : Vector). stateOf r (a .new)) (p .position .ensures)))
+    ∙ ap (λ (x : Vector). clearedOf (a .k) x (apsidesOf (a .k .mu) (stateOf (positionOf (a .active)) (a .new)))) (d .difference .ensures ∙ ap (differenceOf (a .new)) (d .before .velocity .ensures))
 
 pub changed-spec : {M : Type 1} → statement M
 changed-spec =

@@ -1,6 +1,6 @@
 -- `burn::from_point` meets its contract. Assumes nothing.
 use mathlib.Core.Path.{sym, ap, _∙_}
-use Rattle.burn.specs.Burn.{aboveOf, fromPoint}
+use Rattle.burn.specs.Burn.{coellipticOf, fromPoint}
 use borrow.Author.Needs.{needs}
 use Rattle.burn.proofs.from_point.Statement.{statement}
 use Rattle.burn.proofs.from_point.Tie as tie
@@ -21,7 +21,7 @@ returns : tie.Need-returns
 unfolding fromPoint
 returns c = let e = c .before .before .before in
     let a = e .before .before .args in
-    c .above .ensures ∙ ap (aboveOf (a .k) (a .active)) (c .before .passive-of .ensures) ∙ ap (fromPoint (a .k) (a .active)) (sym (e .c .given .1))
+    c .above .ensures ∙ ap (coellipticOf (a .k) (a .active)) (c .before .passive-of .ensures) ∙ ap (fromPoint (a .k) (a .active)) (sym (e .c .given .1))
 
 returns-2 : tie.Need-returns-2
 unfolding fromPoint

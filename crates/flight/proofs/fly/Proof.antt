@@ -8,7 +8,7 @@ use mir.Val.{toZ, ofZ}
 use mir.Facts.{toZ-ofZ}
 use Rattle.elapsed.specs.Elapsed.{elapsedOf}
 use Rattle.solve.specs.Answers.{advanceOf}
-use Rattle.flight.specs.Flight.{muOf, foundAs}
+use Rattle.flight.specs.Flight.{muOf, flownAs}
 use Rattle.flight.proofs.Flights.{far-is, near-is, flown-far, flown-near}
 use borrow.Author.Needs.{needs}
 use Rattle.flight.proofs.fly.Statement.{statement}
@@ -49,8 +49,8 @@ returns c =
     let t = s .args .time in
     let n = near-is f t _ (sym (sym (k .before .before .cs .given .1) ∙ b .between .ensures ∙ back b)) in
     c .found .ensures
-    ∙ ap (λ (z : ℤ). foundAs (f .body) z (c .before .advance .result)) (toZ-ofZ {w = w64} {z = t} (s .fits .time))
-    ∙ ap (foundAs (f .body) t)
+    ∙ ap (λ (z : ℤ). flownAs (f .body) z (c .before .advance .result)) (toZ-ofZ {w = w64} {z = t} (s .fits .time))
+    ∙ ap (flownAs (f .body) t)
     (c .before .advance .ensures
     ∙ ap (λ (m : Float). advanceOf m (f .state) (k .before .before .cs .given .0 .0)) (k .mu-of .ensures)
     ∙ ap (λ (x : Float). advanceOf (muOf mu (f .body)) (f .state) x) (sym (n .1)))

@@ -1,5 +1,7 @@
 -- The listing lies within its buffer. Assumes nothing.
+use mathlib.Core.Path.{sym}
 use lib.Dec.{lit≤}
+use lib.Seq.{length-take-le}
 use Rattle.text.proofs.Fronts.{line-inside}
 use borrow.Author.Needs.{needs}
 use Rattle.history.proofs.list.Statement.{statement}
@@ -14,11 +16,14 @@ list-requires c κs = search needs
 enum-known-n : tie.Need-enum-known-n
 enum-known-n c = search needs
 
+array-share-prefix-out : tie.Need-array-share-prefix-out
+array-share-prefix-out c = line-inside 16384 _ _ _ _ _ (lit≤ tt) (c .before .before .before .before .list .ensures) (c .before .n .given .1)
+
 slice-aggregate-print : tie.Need-slice-aggregate-print
-slice-aggregate-print c = search needs
+slice-aggregate-print c = sym (length-take-le _ _ (array-share-prefix-out (c .before)))
 
 print-requires : tie.Need-print-requires
-print-requires c κs = line-inside 16384 _ _ _ _ _ (lit≤ tt) (c .before .before .before .before .before .list .ensures) (c .before .before .n .given .1)
+print-requires c κs = search needs
 
 enum-told : tie.Need-enum-told
 enum-told c = search needs
@@ -36,6 +41,7 @@ list-spec =
     slice-aggregate-list
     list-requires
     enum-known-n
+    array-share-prefix-out
     slice-aggregate-print
     print-requires
     enum-told

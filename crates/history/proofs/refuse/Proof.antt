@@ -1,4 +1,6 @@
 -- Every refusal fits its buffer. Assumes nothing.
+use mathlib.Core.Path.{sym}
+use lib.Seq.{length-take-le}
 use Rattle.columns.proofs.RowLaws.{refused-fits}
 use Rattle.history.proofs.Inside.{laid-inside}
 use borrow.Author.Needs.{needs}
@@ -11,11 +13,14 @@ slice-aggregate-refused c = search needs
 refused-requires : tie.Need-refused-requires
 refused-requires c κs = search needs
 
+array-share-prefix-out : tie.Need-array-share-prefix-out
+array-share-prefix-out c = laid-inside (c .before .refused .ensures) (refused-fits (c .before .before .before .args .number))
+
 slice-aggregate-print : tie.Need-slice-aggregate-print
-slice-aggregate-print c = search needs
+slice-aggregate-print c = sym (length-take-le _ _ (array-share-prefix-out (c .before)))
 
 print-requires : tie.Need-print-requires
-print-requires c κs = laid-inside (c .before .before .refused .ensures) (refused-fits (c .before .before .before .before .args .number))
+print-requires c κs = search needs
 
 returns : tie.Need-returns
 returns c = search needs
@@ -26,6 +31,7 @@ refuse-spec =
     (tie.spec
     slice-aggregate-refused
     refused-requires
+    array-share-prefix-out
     slice-aggregate-print
     print-requires
     returns)

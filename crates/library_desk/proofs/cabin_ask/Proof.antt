@@ -2,10 +2,10 @@
 use mathlib.Core.Path.{_∙_}
 use denote.Ref.{now}
 use borrow.Author.Tests.{lt-leb, le-leb}
-use Rattle.reply.specs.Replies.{replyText}
-use Rattle.lent.proofs.Gives.{short-wholes, enough-wholes}
+use Rattle.reply.specs.Replies.{replyRoom, replyText}
+use Rattle.lent.proofs.Gives.{short-wholes}
 use Rattle.library_records.proofs.Laws.{short-bytes}
-use Rattle.library_desk.proofs.Laws.{line-bytes}
+use Rattle.library_lines.proofs.Laws.{line-bytes}
 use borrow.Author.Needs.{needs}
 use Rattle.library_desk.proofs.cabin_ask.Statement.{statement}
 use Rattle.library_desk.proofs.cabin_ask.Tie as tie
@@ -29,7 +29,7 @@ returns-2 : tie.Need-returns-2
 returns-2 c =
     let a = c .before .before .before .before .before .before .before .before .before .before .before .before .before .args in
     rw (le-leb _ _ (c .before .before .before .before .before .before .before .before .if1 .left))
-    (enough-wholes (rw (c .before .before .before .before .before .before .reply .ensures .answer) at (c .before .before .give-made .ensures)), c .before .before .before .before .before .before .reply .ensures .buffer ∙ line-bytes (replyText (now (a .used)) (now (a .line))) (now (a .answer)))
+    (rw (c .before .before .before .before .before .before .reply .ensures .answer, le-leb _ _ (c .before .before .before .before .before .before .before .before .if1 .left)) at (c .before .before .give-made .ensures), c .before .before .before .before .before .before .reply .ensures .buffer ∙ line-bytes replyRoom (replyText (now (a .used)) (now (a .line))) (now (a .answer)))
 
 pub cabin-ask-spec : {M : Type 1} → statement M
 cabin-ask-spec =

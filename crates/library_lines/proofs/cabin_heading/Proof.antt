@@ -2,8 +2,8 @@
 use mathlib.Core.Path.{_∙_}
 use denote.Ref.{now}
 use borrow.Author.Tests.{lt-leb, le-leb}
-use Rattle.lines.specs.Lines.{headingText}
-use Rattle.lent.proofs.Gives.{short-wholes, enough-wholes}
+use Rattle.lines.specs.Lines.{lineRoom, headingText}
+use Rattle.lent.proofs.Gives.{short-wholes}
 use Rattle.library_records.proofs.Laws.{short-bytes}
 use Rattle.library_lines.proofs.Laws.{line-bytes}
 use borrow.Author.Needs.{needs}
@@ -29,7 +29,7 @@ returns-2 : tie.Need-returns-2
 returns-2 c =
     let a = c .before .before .before .before .before .before .before .before .before .before .before .args in
     rw (le-leb _ _ (c .before .before .before .before .before .before .before .before .if1 .left))
-    (enough-wholes (rw (c .before .before .before .before .before .before .heading .ensures .answer) at (c .before .before .give-made .ensures)), c .before .before .before .before .before .before .heading .ensures .buffer ∙ line-bytes headingText (now (a .line)))
+    (rw (c .before .before .before .before .before .before .heading .ensures .answer, le-leb _ _ (c .before .before .before .before .before .before .before .before .if1 .left)) at (c .before .before .give-made .ensures), c .before .before .before .before .before .before .heading .ensures .buffer ∙ line-bytes lineRoom headingText (now (a .line)))
 
 pub cabin-heading-spec : {M : Type 1} → statement M
 cabin-heading-spec =

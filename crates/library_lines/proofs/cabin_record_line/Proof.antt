@@ -8,7 +8,7 @@ use denote.Ref.{now}
 use mir.Syntax.{w16, w64}
 use mir.Facts.{toZ-ofZ}
 use borrow.Author.Tests.{lt-leb, le-leb}
-use Rattle.lines.specs.Lines.{recordText}
+use Rattle.lines.specs.Lines.{lineRoom, recordText}
 use Rattle.library_records.specs.Records.{kindFrom, recordFrom}
 use Rattle.library_lines.specs.Listing.{recordLine, recordLineTold}
 use Rattle.lent.proofs.Gives.{left-wholes, short-wholes, enough-wholes}
@@ -56,7 +56,7 @@ returns-4 c =
     let t = line-of (kindFrom (a .kind)) (a .vehicle) 0 (a .time) (λ (i : ℕ). getD (ofBits binary64 0 ∷ []) i nan) (a .offset) in
     let g = rw (c .before .before .before .before .before .before .before .before .record-from .ensures, m, o, t) at (c .before .before .before .before .before .before .record-line .ensures) in
     rw (le-leb _ _ (c .before .before .before .before .before .before .before .before .before .before .before .before .if1 .left), le-leb _ _ (c .before .before .before .before .before .before .before .before .before .before .before .if2 .left), le-leb _ _ (c .before .before .before .before .before .before .before .before .before .before .if3 .left))
-    (enough-wholes (rw (g .answer) at (c .before .before .give-made .ensures)), g .buffer ∙ line-bytes (recordLine (a .kind) (a .vehicle) (a .time) (a .offset)) (now (a .line)))
+    (rw (g .answer, le-leb _ _ (c .before .before .before .before .before .before .before .before .before .before .before .before .if1 .left)) at (c .before .before .give-made .ensures), g .buffer ∙ line-bytes lineRoom (recordLine (a .kind) (a .vehicle) (a .time) (a .offset)) (now (a .line)))
 
 pub cabin-record-line-spec : {M : Type 1} → statement M
 cabin-record-line-spec =

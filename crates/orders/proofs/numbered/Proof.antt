@@ -3,7 +3,7 @@ use Prim.Native.Nat.{ℕ}
 use mathlib.Core.Path.{sym, ap, _∙_}
 use mathlib.Core.Bool.{Bool}
 use denote.Ref.{now}
-use Rattle.numerals.specs.Numbers.{wholeOf}
+use Rattle.numerals.specs.Numbers.{wordWhole}
 use Rattle.numerals.specs.declared.digits.Whole.{Whole}
 use Rattle.orders.specs.Orders.{byWhole, ended, numberedBy}
 use Rattle.orders.specs.declared.Order.the-variants.{Unread}
@@ -33,7 +33,7 @@ returns c =
     let line = now (a .line) in
     let n = c .before .before .before .n .given .0 .0 in
     c .only .ensures ∙ sym (ap (λ (b : Bool). ended 2 line (numberedBy b n)) (c .before .if1 .taken))
-    ∙ sym (ap (λ (w : Whole). byWhole w (λ (m : ℕ). ended 2 line (numberedBy (a .back) m)) (Unread 2)) (sym (c .before .before .before .before .before .read-whole .ensures ∙ ap wholeOf (c .before .before .before .before .before .before .word .ensures)) ∙ c .before .before .before .n .given .1))
+    ∙ sym (ap (λ (w : Whole). byWhole w (λ (m : ℕ). ended 2 line (numberedBy (a .back) m)) (Unread 2)) (sym (c .before .before .before .before .before .read-whole .ensures ∙ ap wordWhole (c .before .before .before .before .before .before .word .ensures)) ∙ c .before .before .before .n .given .1))
 
 only-requires-2 : tie.Need-only-requires-2
 only-requires-2 c κs = search needs
@@ -42,7 +42,7 @@ returns-2 : tie.Need-returns-2
 returns-2 c =
     let a = c .before .before .before .before .before .args in
     let line = now (a .line) in
-    sym (ap (λ (w : Whole). byWhole w (λ (m : ℕ). ended 2 line (numberedBy (a .back) m)) (Unread 2)) (sym (c .before .before .read-whole .ensures ∙ ap wholeOf (c .before .before .before .word .ensures)) ∙ c .enum-told .given .1))
+    sym (ap (λ (w : Whole). byWhole w (λ (m : ℕ). ended 2 line (numberedBy (a .back) m)) (Unread 2)) (sym (c .before .before .read-whole .ensures ∙ ap wordWhole (c .before .before .before .word .ensures)) ∙ c .enum-told .given .1))
 
 returns-3 : tie.Need-returns-3
 unfolding numberedBy
@@ -51,7 +51,7 @@ returns-3 c =
     let line = now (a .line) in
     let n = c .before .before .before .n .given .0 .0 in
     c .only2 .ensures ∙ sym (ap (λ (b : Bool). ended 2 line (numberedBy b n)) (c .before .if1 .left))
-    ∙ sym (ap (λ (w : Whole). byWhole w (λ (m : ℕ). ended 2 line (numberedBy (a .back) m)) (Unread 2)) (sym (c .before .before .before .before .before .read-whole .ensures ∙ ap wholeOf (c .before .before .before .before .before .before .word .ensures)) ∙ c .before .before .before .n .given .1))
+    ∙ sym (ap (λ (w : Whole). byWhole w (λ (m : ℕ). ended 2 line (numberedBy (a .back) m)) (Unread 2)) (sym (c .before .before .before .before .before .read-whole .ensures ∙ ap wordWhole (c .before .before .before .before .before .before .word .ensures)) ∙ c .before .before .before .n .given .1))
 
 pub numbered-spec : {M : Type 1} → statement M
 numbered-spec =

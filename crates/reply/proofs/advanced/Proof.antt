@@ -1,5 +1,5 @@
 -- By the version. Assumes nothing.
-use Rattle.reply.specs.Replies.{advancedBy}
+use Rattle.reply.specs.Replies.{advanceAsked}
 use borrow.Author.Needs.{needs}
 use Rattle.reply.proofs.advanced.Statement.{statement}
 use Rattle.reply.proofs.advanced.Tie as tie
@@ -17,11 +17,11 @@ advance-requires : tie.Need-advance-requires
 advance-requires c κs = search needs
 
 returns : tie.Need-returns
-unfolding advancedBy
+unfolding advanceAsked
 returns c = rw (c .before .enum-told .given .1) (c .advance-limited .ensures)
 
 returns-2 : tie.Need-returns-2
-unfolding advancedBy
+unfolding advanceAsked
 returns-2 c = rw (c .before .before .version .given .1) (c .advance .ensures)
 
 pub advanced-spec : {M : Type 1} → statement M

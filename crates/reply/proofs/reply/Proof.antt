@@ -4,14 +4,14 @@ use denote.Ref.{now}
 use Rattle.requests.specs.Requests.{requestOf}
 use Rattle.text.proofs.Lays.{all-fit, laid-as}
 use Rattle.text.proofs.Fronts.{too-short, in-front}
-use Rattle.reply.specs.Replies.{room, replyOf}
+use Rattle.reply.specs.Replies.{replyRoom, replyOf}
 use Rattle.reply.proofs.Fits.{reply-fits}
 use borrow.Author.Needs.{needs}
 use Rattle.reply.proofs.reply.Statement.{statement}
 use Rattle.reply.proofs.reply.Tie as tie
 
 returns : tie.Need-returns
-returns c = too-short room _ _ (c .if1 .taken)
+returns c = too-short replyRoom _ _ (c .if1 .taken)
 
 read-requires : tie.Need-read-requires
 read-requires c κs = search needs
@@ -25,7 +25,7 @@ same-length c = search needs
 returns-2 : tie.Need-returns-2
 returns-2 c =
     let l = laid-as (ap (replyOf _) (c .before .before .before .read .ensures)) (c .before .before .answered .ensures) in
-    in-front {room = room} (c .before .before .before .before .before .if1 .left) (reply-fits _ (requestOf (now (c .before .before .before .before .before .before .before .before .before .args .line)))) (all-fit l)
+    in-front {room = replyRoom} (c .before .before .before .before .before .if1 .left) (reply-fits _ (requestOf (now (c .before .before .before .before .before .before .before .before .before .args .line)))) (all-fit l)
 
 pub reply-spec : {M : Type 1} → statement M
 reply-spec = tie.close (tie.spec returns read-requires answered-requires same-length returns-2)

@@ -1,5 +1,5 @@
 -- By the version. Assumes nothing.
-use Rattle.reply.specs.Replies.{transferredBy}
+use Rattle.reply.specs.Replies.{transferAsked}
 use borrow.Author.Needs.{needs}
 use Rattle.reply.proofs.transferred.Statement.{statement}
 use Rattle.reply.proofs.transferred.Tie as tie
@@ -17,11 +17,11 @@ transfer-velocity-requires : tie.Need-transfer-velocity-requires
 transfer-velocity-requires c κs = search needs
 
 returns : tie.Need-returns
-unfolding transferredBy
+unfolding transferAsked
 returns c = rw (c .before .enum-told .given .1) (c .transfer-velocity-limited .ensures)
 
 returns-2 : tie.Need-returns-2
-unfolding transferredBy
+unfolding transferAsked
 returns-2 c = rw (c .before .before .version .given .1) (c .transfer-velocity .ensures)
 
 pub transferred-spec : {M : Type 1} → statement M

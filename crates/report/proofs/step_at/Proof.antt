@@ -6,8 +6,8 @@ use mir.Facts.{toZ-ofZ}
 use denote.Ref.{now}
 use Rattle.session.proofs.Refusals.{refusal-number}
 use Rattle.lines.specs.Lines.{recordText, refusedText}
-use Rattle.lines.proofs.Fronts.{long-enough}
-use Rattle.report.specs.Listing.{sizeOf}
+use Rattle.text.proofs.Fronts.{long-enough}
+use Rattle.report.specs.Listing.{madeLength}
 use borrow.Author.Needs.{needs}
 use Rattle.report.proofs.step_at.Statement.{statement}
 use Rattle.report.proofs.step_at.Tie as tie
@@ -55,8 +55,8 @@ returns c =
     let e = sym (c .before .before .before .before .before .before .before .before .before .read .ensures) ∙ g .1 in
     let q = g .0 .1 .0 in
     let o = toZ-ofZ {w = w16} {z = q .offset} (record { sfits = c .before .before .before .before .before .struct-told .given .1 .0 .1 }) in
-    let m = long-enough (recordText (q .offset) (g .0 .0)) (now (a .line)) (c .before .before .before .record-line .last .0) (c .before .before .before .record-line .result) (c .before .before .before .before .before .before .before .before .before .before .before .before .pre) (rw o at (c .before .before .before .record-line .ensures)) in
-    rw e (record { count = c .length-of .ensures ∙ ap sizeOf (m .0); after = refl; buffer = m .1 })
+    let m = long-enough 40 (recordText (q .offset) (g .0 .0)) (now (a .line)) (c .before .before .before .record-line .last .0) (c .before .before .before .record-line .result) (c .before .before .before .before .before .before .before .before .before .before .before .before .pre) (rw o at (c .before .before .before .record-line .ensures)) in
+    rw e (record { count = c .length-of .ensures ∙ ap madeLength (m .0); after = refl; buffer = m .1 })
 
 returns-2 : tie.Need-returns-2
 returns-2 c =
@@ -76,8 +76,8 @@ returns-4 c =
     let a = c .before .before .before .before .before .before .before .before .before .before .before .args in
     let g = c .before .before .before .before .before .before .number .given in
     let e = sym (c .before .before .before .before .before .before .before .before .read .ensures) ∙ g .1 in
-    let m = long-enough (refusedText (g .0 .0) (g .0 .1 .0 .at)) (now (a .line)) (c .before .before .before .refused-line .last .0) (c .before .before .before .refused-line .result) (c .before .before .before .before .before .before .before .before .before .before .before .pre) (c .before .before .before .refused-line .ensures) in
-    rw e (record { count = c .length-of2 .ensures ∙ ap sizeOf (m .0); after = refl; buffer = m .1 })
+    let m = long-enough 40 (refusedText (g .0 .0) (g .0 .1 .0 .at)) (now (a .line)) (c .before .before .before .refused-line .last .0) (c .before .before .before .refused-line .result) (c .before .before .before .before .before .before .before .before .before .before .before .pre) (c .before .before .before .refused-line .ensures) in
+    rw e (record { count = c .length-of2 .ensures ∙ ap madeLength (m .0); after = refl; buffer = m .1 })
 
 pub step-at-spec : {M : Type 1} → statement M
 step-at-spec =

@@ -1,6 +1,6 @@
 -- By the number read. Assumes nothing.
 use mathlib.Core.Path.{sym, ap, _∙_}
-use Rattle.numerals.specs.Numbers.{numberOf}
+use Rattle.numerals.specs.Numbers.{wordNumber}
 use Rattle.forms.proofs.Steps.{by-number}
 use borrow.Author.Needs.{needs}
 use Rattle.requests.proofs.trial.Statement.{statement}
@@ -22,10 +22,10 @@ enum-told : tie.Need-enum-told
 enum-told c = search needs
 
 returns : tie.Need-returns
-returns c = c .trial-between .ensures ∙ sym (by-number _ _ _ (c .before .before .before .before .read-number .ensures ∙ ap numberOf (c .before .before .before .before .before .word .ensures)) (c .before .before .asked .given .1))
+returns c = c .trial-between .ensures ∙ sym (by-number _ _ _ (c .before .before .before .before .read-number .ensures ∙ ap wordNumber (c .before .before .before .before .before .word .ensures)) (c .before .before .asked .given .1))
 
 returns-2 : tie.Need-returns-2
-returns-2 c = sym (by-number _ _ _ (c .before .before .read-number .ensures ∙ ap numberOf (c .before .before .before .word .ensures)) (c .enum-told .given .1))
+returns-2 c = sym (by-number _ _ _ (c .before .before .read-number .ensures ∙ ap wordNumber (c .before .before .before .word .ensures)) (c .enum-told .given .1))
 
 pub trial-spec : {M : Type 1} → statement M
 trial-spec =

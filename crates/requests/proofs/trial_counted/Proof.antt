@@ -3,7 +3,7 @@ use mathlib.Core.Path.{sym, ap, _∙_}
 use denote.Ref.{now}
 use mir.Syntax.{w64}
 use mir.Facts.{toZ-ofZ}
-use Rattle.numerals.specs.Numbers.{wholeOf}
+use Rattle.numerals.specs.Numbers.{wordWhole}
 use Rattle.forms.proofs.Steps.{by-whole, by-end}
 use borrow.Author.Needs.{needs}
 use Rattle.requests.proofs.trial_counted.Statement.{statement}
@@ -25,16 +25,16 @@ returns : tie.Need-returns
 returns c =
     let l = toZ-ofZ {w = w64} {z = c .before .before .before .before .before .before .before .before .args .lo} (c .before .before .before .before .before .before .before .before .fits .lo) in
     let h = toZ-ofZ {w = w64} {z = c .before .before .before .before .before .before .before .before .args .hi} (c .before .before .before .before .before .before .before .before .fits .hi) in
-    rw (l, h) (sym (by-whole 6 (now (c .before .before .before .before .before .before .before .before .args .line)) _ (c .before .before .before .before .before .read-whole .ensures ∙ ap wholeOf (c .before .before .before .before .before .before .word .ensures)) (c .before .before .before .k .given .1) ∙ by-end _ 7 (now (c .before .before .before .before .before .before .before .before .args .line)) (c .before .is-end .ensures) (c .if1 .taken)))
+    rw (l, h) (sym (by-whole 6 (now (c .before .before .before .before .before .before .before .before .args .line)) _ (c .before .before .before .before .before .read-whole .ensures ∙ ap wordWhole (c .before .before .before .before .before .before .word .ensures)) (c .before .before .before .k .given .1) ∙ by-end _ 7 (now (c .before .before .before .before .before .before .before .before .args .line)) (c .before .is-end .ensures) (c .if1 .taken)))
 
 enum-told : tie.Need-enum-told
 enum-told c = search needs
 
 returns-2 : tie.Need-returns-2
-returns-2 c = sym (by-whole 6 (now (c .before .before .before .before .before .before .before .before .args .line)) _ (c .before .before .before .before .before .read-whole .ensures ∙ ap wholeOf (c .before .before .before .before .before .before .word .ensures)) (c .before .before .before .k .given .1) ∙ by-end _ 7 (now (c .before .before .before .before .before .before .before .before .args .line)) (c .before .is-end .ensures) (c .if1 .left))
+returns-2 c = sym (by-whole 6 (now (c .before .before .before .before .before .before .before .before .args .line)) _ (c .before .before .before .before .before .read-whole .ensures ∙ ap wordWhole (c .before .before .before .before .before .before .word .ensures)) (c .before .before .before .k .given .1) ∙ by-end _ 7 (now (c .before .before .before .before .before .before .before .before .args .line)) (c .before .is-end .ensures) (c .if1 .left))
 
 returns-3 : tie.Need-returns-3
-returns-3 c = sym (by-whole 6 (now (c .before .before .before .before .before .args .line)) _ (c .before .before .read-whole .ensures ∙ ap wholeOf (c .before .before .before .word .ensures)) (c .enum-told .given .1))
+returns-3 c = sym (by-whole 6 (now (c .before .before .before .before .before .args .line)) _ (c .before .before .read-whole .ensures ∙ ap wordWhole (c .before .before .before .word .ensures)) (c .enum-told .given .1))
 
 pub trial-counted-spec : {M : Type 1} → statement M
 trial-counted-spec =

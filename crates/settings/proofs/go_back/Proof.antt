@@ -5,14 +5,14 @@ use lib.Seq.{length-take-le}
 use denote.Ref.{now}
 use Rattle.settings.specs.declared.allowed.Setting.{Setting}
 use Rattle.settings.specs.declared.Looked.the-variants as L
-use Rattle.settings.specs.History.{lookUp, after}
+use Rattle.settings.specs.History.{lookUp, bufferAfter}
 use Rattle.settings.proofs.Cases.{beyond, copied, not-copied, found-is}
 use borrow.Author.Needs.{needs}
 use Rattle.settings.proofs.go_back.Statement.{statement}
 use Rattle.settings.proofs.go_back.Tie as tie
 
 returns : tie.Need-returns
-unfolding after
+unfolding bufferAfter
 returns c =
     let a = c .before .before .args in
     (beyond (now (a .buf)) (a .used) (a .k) (c .if1 .taken), refl)
@@ -46,14 +46,14 @@ returns-2 c =
     let e : lookUp (take (a .used) d) (a .k) ≡ L.Found x = sym (c .before .before .before .before .before .before .before .look-up .ensures) ∙ c .before .before .before .before .before .x .given .1 in (
       c .before .before .put-next .ensures .0 ∙ copied d (a .used) (a .k) x (c .before .before .before .before .before .before .before .before .before .if1 .left) e,
       c .before .before .put-next .ensures .1
-          ∙ ap (λ (y : Setting). after (c .before .before .put-next .result) d (a .used) y) (sym (found-is (take (a .used) d) (a .k) x e)),
+          ∙ ap (λ (y : Setting). bufferAfter (c .before .before .put-next .result) d (a .used) y) (sym (found-is (take (a .used) d) (a .k) x e)),
     )
 
 same-length-2 : tie.Need-same-length-2
 same-length-2 c = search needs
 
 returns-3 : tie.Need-returns-3
-unfolding after
+unfolding bufferAfter
 returns-3 c =
     let a = c .before .before .before .before .before .before .before .args in
     let d = now (a .buf) in

@@ -6,7 +6,7 @@ use denote.Ref.{now}
 use borrow.Author.Tests.{not-true, not-false}
 use Rattle.field.proofs.Fields.{rest}
 use Rattle.settings.specs.declared.Looked.the-variants.{Found}
-use Rattle.settings.specs.Layout.{settingAt, wholeOf}
+use Rattle.settings.specs.Layout.{settingAt, areWhole}
 use Rattle.settings.proofs.Cases.{bad, none-yet, no-more, there}
 use borrow.Author.Needs.{needs}
 use Rattle.settings.proofs.look_up.Statement.{statement}
@@ -49,7 +49,7 @@ returns-4 : tie.Need-returns-4
 returns-4 c =
     let a = c .before .before .before .before .before .before .before .args in
     let s = now (a .s) in
-    let w : wholeOf s ≡ true = sym (c .before .before .before .before .before .is-whole .ensures) ∙ not-false _ (c .before .before .before .before .if1 .left) in
+    let w : areWhole s ≡ true = sym (c .before .before .before .before .before .is-whole .ensures) ∙ not-false _ (c .before .before .before .before .if1 .left) in
     ap Found (c .setting-of .ensures ∙ ap settingAt (rest s (44 * (a .k - 1)))) ∙ there s (a .k) w (c .before .before .before .if2 .left) (c .before .before .if3 .left)
 
 pub look-up-spec : {M : Type 1} → statement M

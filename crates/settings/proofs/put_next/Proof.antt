@@ -8,21 +8,21 @@ use denote.Ref.{now}
 use borrow.Author.Tests.{le-leb, lt-leb, lt-ltb, le-ltb}
 use Rattle.text.proofs.Lays.{all-fit}
 use Rattle.settings.specs.Layout.{versionBytes}
-use Rattle.settings.specs.History.{after}
+use Rattle.settings.specs.History.{bufferAfter}
 use Rattle.settings.proofs.Versions.{version-length}
 use borrow.Author.Needs.{needs}
 use Rattle.settings.proofs.put_next.Statement.{statement}
 use Rattle.settings.proofs.put_next.Tie as tie
 
 returns : tie.Need-returns
-unfolding after
+unfolding bufferAfter
 returns c = (rw (le-leb _ _ (c .if1 .taken)) refl, refl)
 
 add-e : tie.Need-add-e
 add-e c = search needs
 
 returns-2 : tie.Need-returns-2
-unfolding after
+unfolding bufferAfter
 returns-2 c = (rw (lt-leb _ _ (c .before .if1 .left), lt-ltb _ _ (c .if2 .taken)) refl, refl)
 
 add-k : tie.Need-add-k
@@ -35,7 +35,7 @@ same-length : tie.Need-same-length
 same-length c = search needs
 
 returns-3 : tie.Need-returns-3
-unfolding after
+unfolding bufferAfter
 returns-3 c =
     let a = c .before .before .before .before .before .before .before .args in
     let d = now (a .buf) in

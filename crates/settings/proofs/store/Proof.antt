@@ -7,15 +7,15 @@ use denote.Ref.{now}
 use borrow.Author.Tests.{not-true, not-false}
 use Rattle.settings.specs.declared.Stored.the-variants.{Refused}
 use Rattle.settings.specs.Allowed.{refusalOf}
-use Rattle.settings.specs.Layout.{wholeOf}
-use Rattle.settings.specs.History.{after}
+use Rattle.settings.specs.Layout.{areWhole}
+use Rattle.settings.specs.History.{bufferAfter}
 use Rattle.settings.proofs.Cases.{outside, not-whole, not-allowed, stored}
 use borrow.Author.Needs.{needs}
 use Rattle.settings.proofs.store.Statement.{statement}
 use Rattle.settings.proofs.store.Tie as tie
 
 returns : tie.Need-returns
-unfolding after
+unfolding bufferAfter
 returns c =
     let a = c .before .before .args in
     (outside (now (a .buf)) (a .used) (a .x) (c .if1 .taken), refl)
@@ -33,7 +33,7 @@ same-length : tie.Need-same-length
 same-length c = search needs
 
 returns-2 : tie.Need-returns-2
-unfolding after
+unfolding bufferAfter
 returns-2 c =
     let a = c .before .before .before .before .before .args in
     (not-whole (now (a .buf)) (a .used) (a .x) (c .before .before .before .if1 .left) (sym (c .before .is-whole .ensures) ∙ not-true _ (c .if2 .taken)), refl)
@@ -45,7 +45,7 @@ same-length-2 : tie.Need-same-length-2
 same-length-2 c = search needs
 
 returns-3 : tie.Need-returns-3
-unfolding after
+unfolding bufferAfter
 returns-3 c =
     let a = c .before .before .before .before .before .before .before .args in
     let e = c .before .refusal-of .ensures in
@@ -62,7 +62,7 @@ returns-4 : tie.Need-returns-4
 returns-4 c =
     let a = c .before .before .before .before .before .before .before .before .before .before .before .args in
     let d = now (a .buf) in
-    let w : wholeOf (take (a .used) d) ≡ true = sym (c .before .before .before .before .before .before .before .is-whole .ensures) ∙ not-false _ (c .before .before .before .before .before .before .if2 .left) in
+    let w : areWhole (take (a .used) d) ≡ true = sym (c .before .before .before .before .before .before .before .is-whole .ensures) ∙ not-false _ (c .before .before .before .before .before .before .if2 .left) in
     let z : refusalOf (a .x) ≡ 0 = sym (c .before .before .before .before .before .refusal-of .ensures) ∙ c .before .before .before .before .if3 .left in
     (c .before .before .put-next .ensures .0 ∙ stored d (a .used) (a .x) (c .before .before .before .before .before .before .before .before .before .if1 .left) w z, c .before .before .put-next .ensures .1)
 

@@ -3,6 +3,7 @@ use Prim.Native.Nat.{ℕ, _-_}
 use native.Mathlib.Omega.{arith}
 use mathlib.Core.Path.{refl, sym, _∙_, _≡_}
 use lib.ListN.{length}
+use lib.Seq.{length-take-le}
 use borrow.Author.Needs.{needs}
 use Rattle.script.proofs.Steps.{goes-on, last-inside}
 use Rattle.show.proofs.show.Statement.{statement}
@@ -26,15 +27,17 @@ show-at-requires c κs = search needs
 enum-known-n : tie.Need-enum-known-n Inv-loop μ-loop
 enum-known-n c = search needs
 
+array-share-prefix-out : tie.Need-array-share-prefix-out Inv-loop μ-loop
+array-share-prefix-out c =
+    let x = rw (c .before .n .given .1) at (c .before .before .before .before .show-at .ensures) in
+    let g = goes-on (omega (arith, c .before .before .before .before .before .before .loop .inv)) (c .before .n .given .0 .0) (c .before .n .given .0 .1 .0) x in
+    g .0
+
 slice-aggregate-print : tie.Need-slice-aggregate-print Inv-loop μ-loop
-slice-aggregate-print c =
-    c .before .before .before .before .before .before .before .loop .inv ∙ sym (c .before .before .before .before .before .show-at .kept .1 .1 .0)
+slice-aggregate-print c = sym (length-take-le _ _ (array-share-prefix-out (c .before)))
 
 print-requires : tie.Need-print-requires Inv-loop μ-loop
-print-requires c κs =
-    let x = rw (c .before .before .n .given .1) at (c .before .before .before .before .before .show-at .ensures) in
-    let g = goes-on (omega (arith, c .before .before .before .before .before .before .before .loop .inv)) (c .before .before .n .given .0 .0) (c .before .before .n .given .0 .1 .0) x in
-    g .0
+print-requires c κs = search needs
 
 returns : tie.Need-returns Inv-loop μ-loop
 returns c = search needs
@@ -52,14 +55,16 @@ loop-again c =
 enum-known-n-2 : tie.Need-enum-known-n-2 Inv-loop μ-loop
 enum-known-n-2 c = search needs
 
+array-share-prefix-out-2 : tie.Need-array-share-prefix-out-2 Inv-loop μ-loop
+array-share-prefix-out-2 c =
+    let x = rw (c .before .n2 .given .1) at (c .before .before .before .before .show-at .ensures) in
+    last-inside (omega (arith, c .before .before .before .before .before .before .loop .inv)) (c .before .n2 .given .0 .0) x
+
 slice-aggregate-print-2 : tie.Need-slice-aggregate-print-2 Inv-loop μ-loop
-slice-aggregate-print-2 c =
-    c .before .before .before .before .before .before .before .loop .inv ∙ sym (c .before .before .before .before .before .show-at .kept .1 .1 .0)
+slice-aggregate-print-2 c = sym (length-take-le _ _ (array-share-prefix-out-2 (c .before)))
 
 print-requires-2 : tie.Need-print-requires-2 Inv-loop μ-loop
-print-requires-2 c κs =
-    let x = rw (c .before .before .n2 .given .1) at (c .before .before .before .before .before .show-at .ensures) in
-    last-inside (omega (arith, c .before .before .before .before .before .before .before .loop .inv)) (c .before .before .n2 .given .0 .0) x
+print-requires-2 c κs = search needs
 
 returns-2 : tie.Need-returns-2 Inv-loop μ-loop
 returns-2 c = search needs
@@ -80,12 +85,14 @@ show-spec =
     slice-aggregate-show-at
     show-at-requires
     enum-known-n
+    array-share-prefix-out
     slice-aggregate-print
     print-requires
     returns
     loop-less
     loop-again
     enum-known-n-2
+    array-share-prefix-out-2
     slice-aggregate-print-2
     print-requires-2
     returns-2

@@ -7,7 +7,7 @@ use Rattle.table.specs.declared.Test.the-variants.{Passed}
 use Rattle.table.specs.Tests.{told, _▷_}
 use Rattle.wheel.specs.declared.Direction.{Direction}
 use Rattle.wheel.specs.declared.Elevation.{Elevation}
-use Rattle.wheel.specs.declared.Elevation.the-variants.{At, Refused}
+use Rattle.wheel.specs.declared.Elevation.the-variants.{Angle, Refused}
 use Rattle.wheel.specs.Wheel.{directionOf}
 use Rattle.sight.specs.declared.Line.{Line}
 use Rattle.sight.specs.Sight.{elevatedOf, lineOf, radicandRow, sightLine, answered}
@@ -51,7 +51,7 @@ returns c =
     ap (λ (t : Test). answered t (a .a) (sightLine (a .a) (a .p) (a .e) (a .h) (a .v))) (sym (tested (a .a) (a .p) (a .e) (a .h) (a .v) _ (sym (c .before .f .given .1) ∙ k .input-tests .ensures)))
 
 -- the wheel's own direction
-same-direction : (d d' : Direction) → _≡_ {A = Elevation} (At d) (At d') → d ≡ d'
+same-direction : (d d' : Direction) → _≡_ {A = Elevation} (Angle d) (Angle d') → d ≡ d'
 same-direction d d' e = cc
 
 returns-2 : tie.Need-returns-2
@@ -69,7 +69,7 @@ returns-2 c =
     ∙ ap (λ (t : Test). answered t (a .a) (sightLine (a .a) (a .p) (a .e) (a .h) (a .v))) (sym (tested (a .a) (a .p) (a .e) (a .h) (a .v) Passed passed))
 
 -- so that it is not refused
-never : (x : Elevation) (d : Direction) (n : ℕ) → x ≡ At d → x ≡ Refused n → ⊥
+never : (x : Elevation) (d : Direction) (n : ℕ) → x ≡ Angle d → x ≡ Refused n → ⊥
 never x d n p q = let z : _≡_ {A = ℕ} 0 1 = cc in omega arith
 
 returns-3 : tie.Need-returns-3

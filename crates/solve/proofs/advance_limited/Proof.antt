@@ -8,7 +8,7 @@ use Rattle.kepler.specs.declared.Motion.{Motion}
 use Rattle.kepler.specs.declared.Turns.{Turns}
 use Rattle.kepler.specs.Kepler.{turnedOf, motionOf, turnsOf}
 use Rattle.solve.specs.Ends.{motionFor, turnsFor}
-use Rattle.solve.specs.Answers.{concludedOf, arrivedAs, advancedEnd}
+use Rattle.solve.specs.Answers.{concludedOf, advancedAs, advancedEnd}
 use Rattle.solve.specs.declared.Outcome.{Outcome}
 use Rattle.solve.specs.declared.Ended.{Ended}
 use Rattle.solve.proofs.Sounds.{kepler-sound}
@@ -58,8 +58,8 @@ concluded-requires c κs =
     rw (ap (λ (w : Turns). w .rest) (rested (e .before)))
     (kepler-sound (a .mu) (a .s) (a .t) (a .limit) (a .g) (c .before .b .given .0 .0) (sym (e .kepler-ended .ensures) ∙ c .before .b .given .1))
 
-arrived-requires : tie.Need-arrived-requires
-arrived-requires c κs = search needs
+advanced-as-requires : tie.Need-advanced-as-requires
+advanced-as-requires c κs = search needs
 
 returns : tie.Need-returns
 unfolding advancedEnd
@@ -82,12 +82,12 @@ returns-3 c =
     let M = o .motion-of .result in
     let F = o .before .turned .result in
     let Z = o .before .before .size .result in
-    c .arrived .ensures
-    ∙ ap (λ (x : Outcome). arrivedAs M F (a .t) (w .turns-of .result .turns) x) (c .before .concluded .ensures)
-    ∙ ap (λ (u : Turns). arrivedAs M F (a .t) (u .turns) (concludedOf Z (u .rest) b)) (rested w)
-    ∙ ap (λ (x : Motion). arrivedAs x F (a .t) (turnsFor (a .mu) (a .s) (a .t) .turns) (concludedOf Z (turnsFor (a .mu) (a .s) (a .t) .rest) b)) (motion o)
-    ∙ ap (λ (x : State). arrivedAs m x (a .t) (turnsFor (a .mu) (a .s) (a .t) .turns) (concludedOf Z (turnsFor (a .mu) (a .s) (a .t) .rest) b)) (o .before .turned .ensures)
-    ∙ ap (λ (x : Float). arrivedAs m (turnedOf (a .t) (a .s)) (a .t) (turnsFor (a .mu) (a .s) (a .t) .turns) (concludedOf x (turnsFor (a .mu) (a .s) (a .t) .rest) b)) (o .before .before .size .ensures)
+    c .advanced-as .ensures
+    ∙ ap (λ (x : Outcome). advancedAs M F (a .t) (w .turns-of .result .turns) x) (c .before .concluded .ensures)
+    ∙ ap (λ (u : Turns). advancedAs M F (a .t) (u .turns) (concludedOf Z (u .rest) b)) (rested w)
+    ∙ ap (λ (x : Motion). advancedAs x F (a .t) (turnsFor (a .mu) (a .s) (a .t) .turns) (concludedOf Z (turnsFor (a .mu) (a .s) (a .t) .rest) b)) (motion o)
+    ∙ ap (λ (x : State). advancedAs m x (a .t) (turnsFor (a .mu) (a .s) (a .t) .turns) (concludedOf Z (turnsFor (a .mu) (a .s) (a .t) .rest) b)) (o .before .turned .ensures)
+    ∙ ap (λ (x : Float). advancedAs m (turnedOf (a .t) (a .s)) (a .t) (turnsFor (a .mu) (a .s) (a .t) .turns) (concludedOf x (turnsFor (a .mu) (a .s) (a .t) .rest) b)) (o .before .before .size .ensures)
     ∙ sym (ap (λ (x : Ended). advancedEnd x m (turnedOf (a .t) (a .s)) (a .t) (sizeOf (a .t))) (sym (e .kepler-ended .ensures) ∙ v .b .given .1))
 
 pub advance-limited-spec : {M : Type 1} → statement M
@@ -103,7 +103,7 @@ advance-limited-spec =
     enum-told
     enum-known-b
     concluded-requires
-    arrived-requires
+    advanced-as-requires
     returns
     returns-2
     returns-3)

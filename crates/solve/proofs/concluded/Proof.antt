@@ -8,7 +8,7 @@ use Rattle.iterator.specs.Single.{moreLeft}
 use Rattle.iterator.specs.declared.Bracket.{Bracket}
 use Rattle.iterator.proofs.Grids.{ends-back, lo-fits, hi-fits}
 use Rattle.iterator.proofs.Single.{sound-of, sound-grid, more-is}
-use Rattle.solve.specs.Answers.{endingOf, concludedOf}
+use Rattle.solve.specs.Answers.{outcomeAt, concludedOf}
 use Rattle.solve.specs.declared.Outcome.the-variants as O
 use Rattle.solve.proofs.concluded.Statement.{statement}
 use Rattle.solve.proofs.concluded.Tie as tie
@@ -17,7 +17,7 @@ not-finished : (size asked : Float) (s : Bracket) → more s ≡ true → O.NotF
 unfolding concludedOf
 not-finished size asked s h = simp h
 
-finished : (size asked : Float) (s : Bracket) → more s ≡ false → endingOf size asked s ≡ concludedOf size asked s
+finished : (size asked : Float) (s : Bracket) → more s ≡ false → outcomeAt size asked s ≡ concludedOf size asked s
 unfolding concludedOf
 finished size asked s h = simp h
 

@@ -3,7 +3,7 @@ use borrow.Author.Needs.{needs}
 use mathlib.Core.Path.{_≡_, sym, ap, _∙_}
 use Rattle.lambert.specs.declared.Transfer.{Transfer}
 use Rattle.lambert.specs.Lambert.{transferOf}
-use Rattle.solve.specs.Answers.{concludedOf, movedAs, transferredEnd}
+use Rattle.solve.specs.Answers.{concludedOf, transferredAs, transferredEnd}
 use Rattle.solve.specs.declared.Outcome.{Outcome}
 use Rattle.solve.specs.declared.Ended.{Ended}
 use Rattle.solve.proofs.Sounds.{lambert-sound}
@@ -31,8 +31,8 @@ concluded-requires c κs =
     let a = e .before .before .args in
     lambert-sound (a .mu) (a .first) (a .second) (a .way) (a .t) (a .limit) (a .g) (c .before .b .given .0 .0) (sym (e .lambert-ended .ensures) ∙ c .before .b .given .1)
 
-moved-requires : tie.Need-moved-requires
-moved-requires c κs = search needs
+transferred-as-requires : tie.Need-transferred-as-requires
+transferred-as-requires c κs = search needs
 
 returns : tie.Need-returns
 unfolding transferredEnd
@@ -50,9 +50,9 @@ returns-3 c =
     let o = e .before in
     let a = o .before .args in
     let b = v .b .given .0 .0 in
-    c .moved .ensures
-    ∙ ap (λ (x : Outcome). movedAs (o .transfer-of .result) x) (c .before .concluded .ensures)
-    ∙ ap (λ (x : Transfer). movedAs x (concludedOf (a .t) (a .t) b)) (o .transfer-of .ensures)
+    c .transferred-as .ensures
+    ∙ ap (λ (x : Outcome). transferredAs (o .transfer-of .result) x) (c .before .concluded .ensures)
+    ∙ ap (λ (x : Transfer). transferredAs x (concludedOf (a .t) (a .t) b)) (o .transfer-of .ensures)
     ∙ sym (ap (λ (x : Ended). transferredEnd x (transferOf (a .mu) (a .first) (a .second) (a .way)) (a .t)) (sym (e .lambert-ended .ensures) ∙ v .b .given .1))
 
 pub transfer-velocity-limited-spec : {M : Type 1} → statement M
@@ -65,7 +65,7 @@ transfer-velocity-limited-spec =
     enum-told
     enum-known-b
     concluded-requires
-    moved-requires
+    transferred-as-requires
     returns
     returns-2
     returns-3)

@@ -9,7 +9,7 @@ use Rattle.problem.specs.declared.Problem.the-variants.{Kepler}
 use Rattle.solve.specs.Ends.{motionFor, turnsFor}
 use Rattle.solve.proofs.Sounds.{kepler-sound}
 use Rattle.why.specs.declared.Told.{Told}
-use Rattle.why.specs.Why.{toldOf, arrivedBy, advanceReason}
+use Rattle.why.specs.Why.{toldOf, toldAdvance, advanceReason}
 use Rattle.why.proofs.advance.Statement.{statement}
 use Rattle.why.proofs.advance.Tie as tie
 
@@ -39,8 +39,8 @@ tell-requires c κs =
     let b = v .b .given .0 .0 in
     more-is (sound-of (turnsFor (a .mu) (a .s) (a .t) .rest) b (kepler-sound (a .mu) (a .s) (a .t) (a .limit) (a .g) b (sym (e .advance-ended .ensures) ∙ v .b .given .1)))
 
-arrived-requires : tie.Need-arrived-requires
-arrived-requires c κs = search needs
+told-advance-requires : tie.Need-told-advance-requires
+told-advance-requires c κs = search needs
 
 returns : tie.Need-returns
 unfolding advanceReason
@@ -60,10 +60,10 @@ returns-3 c =
     let a = e .before .args in
     let b = v .b .given .0 .0 in
     simp (sym (e .advance-ended .ensures) ∙ v .b .given .1)
-    (c .arrived .ensures
-    ∙ ap (λ (x : Told). arrivedBy (o .motion-of .result) (f .turned .result) x) (c .before .tell .ensures)
-    ∙ ap (λ (m : Motion). arrivedBy m (f .turned .result) (toldOf (Kepler m) b)) (o .motion-of .ensures ∙ ap (motionOf (a .mu)) (f .turned .ensures))
-    ∙ ap (λ (s : State). arrivedBy (motionFor (a .mu) (a .s) (a .t)) s (toldOf (Kepler (motionFor (a .mu) (a .s) (a .t))) b)) (f .turned .ensures))
+    (c .told-advance .ensures
+    ∙ ap (λ (x : Told). toldAdvance (o .motion-of .result) (f .turned .result) x) (c .before .tell .ensures)
+    ∙ ap (λ (m : Motion). toldAdvance m (f .turned .result) (toldOf (Kepler m) b)) (o .motion-of .ensures ∙ ap (motionOf (a .mu)) (f .turned .ensures))
+    ∙ ap (λ (s : State). toldAdvance (motionFor (a .mu) (a .s) (a .t)) s (toldOf (Kepler (motionFor (a .mu) (a .s) (a .t))) b)) (f .turned .ensures))
 
 pub advance-spec : {M : Type 1} → statement M
 advance-spec =
@@ -76,7 +76,7 @@ advance-spec =
     turned-requires
     motion-of-requires
     tell-requires
-    arrived-requires
+    told-advance-requires
     returns
     returns-2
     returns-3)

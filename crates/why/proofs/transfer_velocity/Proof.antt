@@ -6,7 +6,7 @@ use Rattle.lambert.specs.declared.Transfer.{Transfer}
 use Rattle.problem.specs.declared.Problem.the-variants.{Lambert}
 use Rattle.solve.proofs.Sounds.{lambert-sound}
 use Rattle.why.specs.declared.Told.{Told}
-use Rattle.why.specs.Why.{toldOf, movedBy, transferReason}
+use Rattle.why.specs.Why.{toldOf, toldTransfer, transferReason}
 use Rattle.why.proofs.transfer_velocity.Statement.{statement}
 use Rattle.why.proofs.transfer_velocity.Tie as tie
 
@@ -33,8 +33,8 @@ tell-requires c κs =
     let b = v .b .given .0 .0 in
     more-is (sound-of (a .t) b (lambert-sound (a .mu) (a .first) (a .second) (a .way) (a .t) (a .limit) (a .g) b (sym (e .transfer-ended .ensures) ∙ v .b .given .1)))
 
-moved-requires : tie.Need-moved-requires
-moved-requires c κs = search needs
+told-transfer-requires : tie.Need-told-transfer-requires
+told-transfer-requires c κs = search needs
 
 returns : tie.Need-returns
 unfolding transferReason
@@ -51,9 +51,9 @@ returns-3 c =
     let v = o .before .before in
     let e = v .before .before in
     simp (sym (e .transfer-ended .ensures) ∙ v .b .given .1)
-    (c .moved .ensures
-    ∙ ap (λ (x : Told). movedBy (o .transfer-of .result) x) (c .before .tell .ensures)
-    ∙ ap (λ (d : Transfer). movedBy d (toldOf (Lambert d) (v .b .given .0 .0))) (o .transfer-of .ensures))
+    (c .told-transfer .ensures
+    ∙ ap (λ (x : Told). toldTransfer (o .transfer-of .result) x) (c .before .tell .ensures)
+    ∙ ap (λ (d : Transfer). toldTransfer d (toldOf (Lambert d) (v .b .given .0 .0))) (o .transfer-of .ensures))
 
 pub transfer-velocity-spec : {M : Type 1} → statement M
 transfer-velocity-spec =
@@ -65,7 +65,7 @@ transfer-velocity-spec =
     enum-known-b
     transfer-of-requires
     tell-requires
-    moved-requires
+    told-transfer-requires
     returns
     returns-2
     returns-3)

@@ -2,6 +2,7 @@
 use native.Mathlib.Omega.{arith}
 use mathlib.Core.Path.{sym, _∙_}
 use denote.Ref.{now}
+use lib.Seq.{length-take-le}
 use Rattle.book.proofs.Laws.{turn-within}
 use borrow.Author.Needs.{needs}
 use Rattle.write.proofs.finish.Statement.{statement}
@@ -13,11 +14,17 @@ add-requires c κs = search needs
 enum-known-t : tie.Need-enum-known-t
 enum-known-t c = search needs
 
-put-requires : tie.Need-put-requires
-put-requires c κs =
-    let e = sym (c .before .before .before .before .before .before .add .ensures .0) ∙ c .before .before .t .given .1 in
-    let w = turn-within (now (c .before .before .before .before .before .before .before .before .before .before .args .session)) (c .before .before .before .before .before .before .before .before .before .before .args .at) (c .before .before .before .before .before .before .before .before .before .before .args .count) (now (c .before .before .before .before .before .before .before .before .before .before .args .rest)) _ _ (c .before .before .before .before .before .before .before .before .before .before .pre) e in
-    omega (arith, w, c .before .before .before .before .before .before .add .kept .0)
+slice-reshare-prefix-print : tie.Need-slice-reshare-prefix-print
+slice-reshare-prefix-print c =
+    let e = sym (c .before .before .before .before .before .add .ensures .0) ∙ c .before .t .given .1 in
+    let w = turn-within (now (c .before .before .before .before .before .before .before .before .before .args .session)) (c .before .before .before .before .before .before .before .before .before .args .at) (c .before .before .before .before .before .before .before .before .before .args .count) (now (c .before .before .before .before .before .before .before .before .before .args .rest)) _ _ (c .before .before .before .before .before .before .before .before .before .pre) e in
+    omega (arith, w, c .before .before .before .before .before .add .kept .0)
+
+slice-aggregate-print : tie.Need-slice-aggregate-print
+slice-aggregate-print c = sym (length-take-le _ _ (slice-reshare-prefix-print (c .before)))
+
+print-requires : tie.Need-print-requires
+print-requires c κs = search needs
 
 enum-told : tie.Need-enum-told
 enum-told c = search needs
@@ -55,7 +62,9 @@ finish-spec =
     (tie.spec
     add-requires
     enum-known-t
-    put-requires
+    slice-reshare-prefix-print
+    slice-aggregate-print
+    print-requires
     enum-told
     complain-requires
     enum-told-2

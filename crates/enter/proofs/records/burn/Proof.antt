@@ -2,7 +2,7 @@
 use mir.Syntax.{w64}
 use mir.Facts.{toZ-ofZ}
 use denote.Ref.{now}
-use Rattle.session.specs.Kinds.{lengthOf}
+use Rattle.session.specs.Kinds.{recordLength}
 use Rattle.session.specs.Layout.{kindIn, bytesOf}
 use Rattle.session.specs.Decode.{allowedIn}
 use Rattle.writer.proofs.Cases.{not-allowed}
@@ -14,7 +14,7 @@ use Rattle.enter.proofs.records.burn.Tie as tie
 
 returns : tie.Need-returns
 returns c =
-    not-allowed (allowedIn (burnRecord (c .before .before .args .time) (c .before .before .args .vehicle) (c .before .before .args .change))) (now (c .before .before .args .buf)) (c .before .before .args .at) (lengthOf (kindIn (burnRecord (c .before .before .args .time) (c .before .before .args .vehicle) (c .before .before .args .change)))) (bytesOf (burnRecord (c .before .before .args .time) (c .before .before .args .vehicle) (c .before .before .args .change))) (wide-vehicle (burnRecord (c .before .before .args .time) (c .before .before .args .vehicle) (c .before .before .args .change)) (c .if1 .taken))
+    not-allowed (allowedIn (burnRecord (c .before .before .args .time) (c .before .before .args .vehicle) (c .before .before .args .change))) (now (c .before .before .args .buf)) (c .before .before .args .at) (recordLength (kindIn (burnRecord (c .before .before .args .time) (c .before .before .args .vehicle) (c .before .before .args .change)))) (bytesOf (burnRecord (c .before .before .args .time) (c .before .before .args .vehicle) (c .before .before .args .change))) (wide-vehicle (burnRecord (c .before .before .args .time) (c .before .before .args .vehicle) (c .before .before .args .change)) (c .if1 .taken))
 
 cast-t9 : tie.Need-cast-t9
 cast-t9 c = search needs

@@ -2,7 +2,7 @@
 use mir.Syntax.{w64}
 use mir.Facts.{toZ-ofZ}
 use denote.Ref.{now}
-use Rattle.session.specs.Kinds.{lengthOf}
+use Rattle.session.specs.Kinds.{recordLength}
 use Rattle.session.specs.Layout.{kindIn, bytesOf}
 use Rattle.session.specs.Decode.{allowedIn}
 use Rattle.writer.proofs.Cases.{not-allowed}
@@ -14,7 +14,7 @@ use Rattle.enter.proofs.records.mark.Tie as tie
 
 returns : tie.Need-returns
 returns c =
-    not-allowed (allowedIn (markRecord (c .before .before .args .time) (c .before .before .args .vehicle) (c .before .before .args .range) (c .before .before .args .rate))) (now (c .before .before .args .buf)) (c .before .before .args .at) (lengthOf (kindIn (markRecord (c .before .before .args .time) (c .before .before .args .vehicle) (c .before .before .args .range) (c .before .before .args .rate)))) (bytesOf (markRecord (c .before .before .args .time) (c .before .before .args .vehicle) (c .before .before .args .range) (c .before .before .args .rate))) (wide-vehicle (markRecord (c .before .before .args .time) (c .before .before .args .vehicle) (c .before .before .args .range) (c .before .before .args .rate)) (c .if1 .taken))
+    not-allowed (allowedIn (markRecord (c .before .before .args .time) (c .before .before .args .vehicle) (c .before .before .args .range) (c .before .before .args .rate))) (now (c .before .before .args .buf)) (c .before .before .args .at) (recordLength (kindIn (markRecord (c .before .before .args .time) (c .before .before .args .vehicle) (c .before .before .args .range) (c .before .before .args .rate)))) (bytesOf (markRecord (c .before .before .args .time) (c .before .before .args .vehicle) (c .before .before .args .range) (c .before .before .args .rate))) (wide-vehicle (markRecord (c .before .before .args .time) (c .before .before .args .vehicle) (c .before .before .args .range) (c .before .before .args .rate)) (c .if1 .taken))
 
 cast-t10 : tie.Need-cast-t10
 cast-t10 c = search needs

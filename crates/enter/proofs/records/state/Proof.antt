@@ -2,7 +2,7 @@
 use mir.Syntax.{w64}
 use mir.Facts.{toZ-ofZ}
 use denote.Ref.{now}
-use Rattle.session.specs.Kinds.{lengthOf}
+use Rattle.session.specs.Kinds.{recordLength}
 use Rattle.session.specs.Layout.{kindIn, bytesOf}
 use Rattle.session.specs.Decode.{allowedIn}
 use Rattle.writer.proofs.Cases.{not-allowed}
@@ -14,11 +14,11 @@ use Rattle.enter.proofs.records.state.Tie as tie
 
 returns : tie.Need-returns
 returns c =
-    not-allowed (allowedIn (stateRecord (c .before .before .args .time) (c .before .before .args .vehicle) (c .before .before .args .body) (c .before .before .args .state))) (now (c .before .before .args .buf)) (c .before .before .args .at) (lengthOf (kindIn (stateRecord (c .before .before .args .time) (c .before .before .args .vehicle) (c .before .before .args .body) (c .before .before .args .state)))) (bytesOf (stateRecord (c .before .before .args .time) (c .before .before .args .vehicle) (c .before .before .args .body) (c .before .before .args .state))) (wide-vehicle (stateRecord (c .before .before .args .time) (c .before .before .args .vehicle) (c .before .before .args .body) (c .before .before .args .state)) (c .if1 .taken))
+    not-allowed (allowedIn (stateRecord (c .before .before .args .time) (c .before .before .args .vehicle) (c .before .before .args .body) (c .before .before .args .state))) (now (c .before .before .args .buf)) (c .before .before .args .at) (recordLength (kindIn (stateRecord (c .before .before .args .time) (c .before .before .args .vehicle) (c .before .before .args .body) (c .before .before .args .state)))) (bytesOf (stateRecord (c .before .before .args .time) (c .before .before .args .vehicle) (c .before .before .args .body) (c .before .before .args .state))) (wide-vehicle (stateRecord (c .before .before .args .time) (c .before .before .args .vehicle) (c .before .before .args .body) (c .before .before .args .state)) (c .if1 .taken))
 
 returns-2 : tie.Need-returns-2
 returns-2 c =
-    not-allowed (allowedIn (stateRecord (c .before .before .before .args .time) (c .before .before .before .args .vehicle) (c .before .before .before .args .body) (c .before .before .before .args .state))) (now (c .before .before .before .args .buf)) (c .before .before .before .args .at) (lengthOf (kindIn (stateRecord (c .before .before .before .args .time) (c .before .before .before .args .vehicle) (c .before .before .before .args .body) (c .before .before .before .args .state)))) (bytesOf (stateRecord (c .before .before .before .args .time) (c .before .before .before .args .vehicle) (c .before .before .before .args .body) (c .before .before .before .args .state))) (wide-body (stateRecord (c .before .before .before .args .time) (c .before .before .before .args .vehicle) (c .before .before .before .args .body) (c .before .before .before .args .state)) (c .if2 .taken))
+    not-allowed (allowedIn (stateRecord (c .before .before .before .args .time) (c .before .before .before .args .vehicle) (c .before .before .before .args .body) (c .before .before .before .args .state))) (now (c .before .before .before .args .buf)) (c .before .before .before .args .at) (recordLength (kindIn (stateRecord (c .before .before .before .args .time) (c .before .before .before .args .vehicle) (c .before .before .before .args .body) (c .before .before .before .args .state)))) (bytesOf (stateRecord (c .before .before .before .args .time) (c .before .before .before .args .vehicle) (c .before .before .before .args .body) (c .before .before .before .args .state))) (wide-body (stateRecord (c .before .before .before .args .time) (c .before .before .before .args .vehicle) (c .before .before .before .args .body) (c .before .before .before .args .state)) (c .if2 .taken))
 
 cast-t10 : tie.Need-cast-t10
 cast-t10 c = search needs

@@ -1,6 +1,6 @@
 -- The word, read. Assumes nothing.
 use mathlib.Core.Path.{ap, _∙_}
-use Rattle.numerals.specs.Numbers.{numberOf}
+use Rattle.numerals.specs.Numbers.{wordNumber}
 use borrow.Author.Needs.{needs}
 use Rattle.entry.proofs.parts.number_at.Statement.{statement}
 use Rattle.entry.proofs.parts.number_at.Tie as tie
@@ -12,7 +12,7 @@ read-number-requires : tie.Need-read-number-requires
 read-number-requires c κs = search needs
 
 returns : tie.Need-returns
-returns c = c .read-number .ensures ∙ ap numberOf (c .before .word .ensures)
+returns c = c .read-number .ensures ∙ ap wordNumber (c .before .word .ensures)
 
 pub number-at-spec : {M : Type 1} → statement M
 number-at-spec = tie.close (tie.spec word-requires read-number-requires returns)

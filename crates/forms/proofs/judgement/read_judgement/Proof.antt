@@ -2,8 +2,8 @@
 use mathlib.Core.Path.{refl, sym, ap, _∙_}
 use denote.Ref.{now}
 use Rattle.words.proofs.Searches.{starts-long, rest-of}
-use Rattle.numerals.specs.Numbers.{numberOf}
-use Rattle.forms.specs.Judgements.{asLow, asHigh, judgedOf}
+use Rattle.numerals.specs.Numbers.{wordNumber}
+use Rattle.forms.specs.Judgements.{asLow, asHigh, wordJudgement}
 use borrow.Author.Needs.{needs}
 use Rattle.forms.proofs.judgement.read_judgement.Statement.{statement}
 use Rattle.forms.proofs.judgement.read_judgement.Tie as tie
@@ -15,7 +15,7 @@ is-word-requires : tie.Need-is-word-requires
 is-word-requires c κs = search needs
 
 returns : tie.Need-returns
-unfolding judgedOf
+unfolding wordJudgement
 returns c = rw (sym (c .before .is-word .ensures) ∙ c .if1 .taken) refl
 
 slice-aggregate-is-word-2 : tie.Need-slice-aggregate-is-word-2
@@ -25,7 +25,7 @@ is-word-requires-2 : tie.Need-is-word-requires-2
 is-word-requires-2 c κs = search needs
 
 returns-2 : tie.Need-returns-2
-unfolding judgedOf
+unfolding wordJudgement
 returns-2 c = rw (sym (c .before .before .before .before .is-word .ensures) ∙ c .before .before .before .if1 .left, sym (c .before .is-word2 .ensures) ∙ c .if2 .taken) refl
 
 slice-aggregate-starts-with : tie.Need-slice-aggregate-starts-with
@@ -50,9 +50,9 @@ low-requires : tie.Need-low-requires
 low-requires c κs = search needs
 
 returns-3 : tie.Need-returns-3
-unfolding judgedOf
+unfolding wordJudgement
 returns-3 c =
-    c .low .ensures ∙ ap asLow (c .before .read-number .ensures ∙ ap numberOf (rest-of 4 (now (c .before .before .before .before .before .before .before .before .before .before .before .before .before .args .s))))
+    c .low .ensures ∙ ap asLow (c .before .read-number .ensures ∙ ap wordNumber (rest-of 4 (now (c .before .before .before .before .before .before .before .before .before .before .before .before .before .args .s))))
     ∙ rw (sym (c .before .before .before .before .before .before .before .before .before .before .is-word .ensures) ∙ c .before .before .before .before .before .before .before .before .before .if1 .left, sym (c .before .before .before .before .before .before .before .is-word2 .ensures) ∙ c .before .before .before .before .before .before .if2 .left, sym (c .before .before .before .before .starts-with .ensures) ∙ c .before .before .before .if3 .taken) refl
 
 slice-aggregate-starts-with-2 : tie.Need-slice-aggregate-starts-with-2
@@ -77,13 +77,13 @@ high-requires : tie.Need-high-requires
 high-requires c κs = search needs
 
 returns-4 : tie.Need-returns-4
-unfolding judgedOf
+unfolding wordJudgement
 returns-4 c =
-    c .high .ensures ∙ ap asHigh (c .before .read-number2 .ensures ∙ ap numberOf (rest-of 5 (now (c .before .before .before .before .before .before .before .before .before .before .before .before .before .before .before .before .args .s))))
+    c .high .ensures ∙ ap asHigh (c .before .read-number2 .ensures ∙ ap wordNumber (rest-of 5 (now (c .before .before .before .before .before .before .before .before .before .before .before .before .before .before .before .before .args .s))))
     ∙ rw (sym (c .before .before .before .before .before .before .before .before .before .before .before .before .before .is-word .ensures) ∙ c .before .before .before .before .before .before .before .before .before .before .before .before .if1 .left, sym (c .before .before .before .before .before .before .before .before .before .before .is-word2 .ensures) ∙ c .before .before .before .before .before .before .before .before .before .if2 .left, sym (c .before .before .before .before .before .before .before .starts-with .ensures) ∙ c .before .before .before .before .before .before .if3 .left, sym (c .before .before .before .before .starts-with2 .ensures) ∙ c .before .before .before .if4 .taken) refl
 
 returns-5 : tie.Need-returns-5
-unfolding judgedOf
+unfolding wordJudgement
 returns-5 c = rw (sym (c .before .before .before .before .before .before .before .before .before .before .is-word .ensures) ∙ c .before .before .before .before .before .before .before .before .before .if1 .left, sym (c .before .before .before .before .before .before .before .is-word2 .ensures) ∙ c .before .before .before .before .before .before .if2 .left, sym (c .before .before .before .before .starts-with .ensures) ∙ c .before .before .before .if3 .left, sym (c .before .starts-with2 .ensures) ∙ c .if4 .left) refl
 
 pub read-judgement-spec : {M : Type 1} → statement M

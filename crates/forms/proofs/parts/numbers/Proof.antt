@@ -2,7 +2,7 @@
 use Prim.Native.Nat.{_-_}
 use mathlib.Core.Path.{_≡_, refl, ap, _∙_}
 use lib.ListN.{length, length-set}
-use Rattle.numerals.specs.Numbers.{numberOf}
+use Rattle.numerals.specs.Numbers.{wordNumber}
 use Rattle.forms.proofs.Rows.{Got, got-none, got-more, got-bad, got-all}
 use borrow.Author.Needs.{needs}
 use native.Mathlib.Omega.{arith}
@@ -43,7 +43,7 @@ loop-less : tie.Need-loop-less Inv-loop μ-loop
 loop-less c = simp length-set (omega arith)
 
 loop-again : tie.Need-loop-again Inv-loop μ-loop
-loop-again c = (simp length-set (c .before .before .before .before .before .before .loop .inv .0), got-more (c .before .before .before .before .before .before .loop .inv .1) (c .before .before .before .before .before .loop-test .taken) (c .before .before .before .read-number .ensures ∙ ap numberOf (c .before .before .before .before .word .ensures)) (c .before .x .given .1))
+loop-again c = (simp length-set (c .before .before .before .before .before .before .loop .inv .0), got-more (c .before .before .before .before .before .before .loop .inv .1) (c .before .before .before .before .before .loop-test .taken) (c .before .before .before .read-number .ensures ∙ ap wordNumber (c .before .before .before .before .word .ensures)) (c .before .x .given .1))
 
 enum-told : tie.Need-enum-told Inv-loop μ-loop
 enum-told c = search needs
@@ -55,7 +55,7 @@ same-length : tie.Need-same-length Inv-loop μ-loop
 same-length c = c .before .before .before .before .before .loop .inv .0
 
 returns : tie.Need-returns Inv-loop μ-loop
-returns c = got-bad (c .before .before .before .before .before .loop .inv .1) (c .before .before .before .before .loop-test .taken) (c .before .before .read-number .ensures ∙ ap numberOf (c .before .before .before .word .ensures)) (c .enum-told .given .1)
+returns c = got-bad (c .before .before .before .before .before .loop .inv .1) (c .before .before .before .before .loop-test .taken) (c .before .before .read-number .ensures ∙ ap wordNumber (c .before .before .before .word .ensures)) (c .enum-told .given .1)
 
 same-length-2 : tie.Need-same-length-2 Inv-loop μ-loop
 same-length-2 c = c .before .loop .inv .0

@@ -4,12 +4,12 @@ use denote.Ref.{now}
 use borrow.Author.Tests.{eq-eqb, ne-eqb}
 use borrow.Author.Needs.{needs}
 use Rattle.words.proofs.Searches.{rest-of, nil}
-use Rattle.numerals.specs.Numbers.{decimal, plain, minus, signedOf}
+use Rattle.numerals.specs.Numbers.{wordDecimal, plain, minus, wordSigned}
 use Rattle.numerals.proofs.digits.read_signed.Statement.{statement}
 use Rattle.numerals.proofs.digits.read_signed.Tie as tie
 
 returns : tie.Need-returns
-unfolding signedOf decimal
+unfolding wordSigned wordDecimal
 returns c = let s = now (c .before .before .args .s) in rw (nil s (c .if1 .taken)) refl
 
 shared-slice-read-if2 : tie.Need-shared-slice-read-if2
@@ -31,10 +31,10 @@ negative-requires : tie.Need-negative-requires
 negative-requires c κs = search needs
 
 returns-2 : tie.Need-returns-2
-unfolding signedOf
+unfolding wordSigned
 returns-2 c =
     let s = now (c .before .before .before .before .before .before .before .args .s) in
-    c .negative .ensures ∙ ap minus (c .before .decimal-digits .ensures ∙ ap decimal (rest-of 1 s)) ∙ rw (eq-eqb _ _ (c .before .before .before .if2 .taken)) refl
+    c .negative .ensures ∙ ap minus (c .before .decimal-digits .ensures ∙ ap wordDecimal (rest-of 1 s)) ∙ rw (eq-eqb _ _ (c .before .before .before .if2 .taken)) refl
 
 decimal-digits-requires-2 : tie.Need-decimal-digits-requires-2
 decimal-digits-requires-2 c κs = search needs
@@ -43,7 +43,7 @@ positive-requires : tie.Need-positive-requires
 positive-requires c κs = search needs
 
 returns-3 : tie.Need-returns-3
-unfolding signedOf
+unfolding wordSigned
 returns-3 c = c .positive .ensures ∙ ap plain (c .before .decimal-digits2 .ensures) ∙ rw (ne-eqb _ _ (c .before .before .if2 .left)) refl
 
 pub read-signed-spec : {M : Type 1} → statement M

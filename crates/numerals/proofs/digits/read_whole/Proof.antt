@@ -4,12 +4,12 @@ use denote.Ref.{now}
 use borrow.Author.Tests.{eq-eqb, ne-eqb}
 use borrow.Author.Needs.{needs}
 use Rattle.words.proofs.Searches.{rest-of, nil}
-use Rattle.numerals.specs.Numbers.{decimal, onlyZero, wholeOf}
+use Rattle.numerals.specs.Numbers.{wordDecimal, onlyZero, wordWhole}
 use Rattle.numerals.proofs.digits.read_whole.Statement.{statement}
 use Rattle.numerals.proofs.digits.read_whole.Tie as tie
 
 returns : tie.Need-returns
-unfolding wholeOf decimal
+unfolding wordWhole wordDecimal
 returns c = let s = now (c .before .before .args .s) in rw (nil s (c .if1 .taken)) refl
 
 shared-slice-read-if2 : tie.Need-shared-slice-read-if2
@@ -31,16 +31,16 @@ only-zero-requires : tie.Need-only-zero-requires
 only-zero-requires c κs = search needs
 
 returns-2 : tie.Need-returns-2
-unfolding wholeOf
+unfolding wordWhole
 returns-2 c =
     let s = now (c .before .before .before .before .before .before .before .args .s) in
-    c .only-zero .ensures ∙ ap onlyZero (c .before .decimal-digits .ensures ∙ ap decimal (rest-of 1 s)) ∙ rw (eq-eqb _ _ (c .before .before .before .if2 .taken)) refl
+    c .only-zero .ensures ∙ ap onlyZero (c .before .decimal-digits .ensures ∙ ap wordDecimal (rest-of 1 s)) ∙ rw (eq-eqb _ _ (c .before .before .before .if2 .taken)) refl
 
 decimal-digits-requires-2 : tie.Need-decimal-digits-requires-2
 decimal-digits-requires-2 c κs = search needs
 
 returns-3 : tie.Need-returns-3
-unfolding wholeOf
+unfolding wordWhole
 returns-3 c = c .decimal-digits2 .ensures ∙ rw (ne-eqb _ _ (c .before .if2 .left)) refl
 
 pub read-whole-spec : {M : Type 1} → statement M

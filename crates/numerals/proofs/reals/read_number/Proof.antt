@@ -4,13 +4,13 @@ use denote.Ref.{now}
 use borrow.Author.Tests.{eq-eqb, ne-eqb}
 use borrow.Author.Needs.{needs}
 use Rattle.words.specs.Words.{upTo, from}
-use Rattle.numerals.specs.Numbers.{patternOf, wellFormed, unsignedOf, negated, numberOf}
+use Rattle.numerals.specs.Numbers.{patternOf, wellFormed, unsignedOf, negated, wordNumber}
 use Rattle.words.proofs.Searches.{rest-of, nil}
 use Rattle.numerals.proofs.reals.read_number.Statement.{statement}
 use Rattle.numerals.proofs.reals.read_number.Tie as tie
 
 returns : tie.Need-returns
-unfolding numberOf unsignedOf wellFormed upTo from
+unfolding wordNumber unsignedOf wellFormed upTo from
 returns c = let s = now (c .before .before .args .s) in rw (nil s (c .if1 .taken)) refl
 
 shared-slice-read-if2 : tie.Need-shared-slice-read-if2
@@ -29,7 +29,7 @@ pattern-requires : tie.Need-pattern-requires
 pattern-requires c κs = search needs
 
 returns-2 : tie.Need-returns-2
-unfolding numberOf
+unfolding wordNumber
 returns-2 c =
     let s = now (c .before .before .before .before .before .before .args .s) in
     c .pattern .ensures ∙ ap patternOf (rest-of 1 s) ∙ rw (eq-eqb _ _ (c .before .before .if2 .taken)) refl
@@ -53,7 +53,7 @@ negative-requires : tie.Need-negative-requires
 negative-requires c κs = search needs
 
 returns-3 : tie.Need-returns-3
-unfolding numberOf
+unfolding wordNumber
 returns-3 c =
     let s = now (c .before .before .before .before .before .before .before .before .before .args .s) in
     c .negative .ensures ∙ ap negated (c .before .unsigned .ensures ∙ ap unsignedOf (rest-of 1 s)) ∙ rw (ne-eqb _ _ (c .before .before .before .before .before .if2 .left), eq-eqb _ _ (c .before .before .before .if3 .taken)) refl
@@ -74,7 +74,7 @@ unsigned-requires-2 : tie.Need-unsigned-requires-2
 unsigned-requires-2 c κs = search needs
 
 returns-4 : tie.Need-returns-4
-unfolding numberOf
+unfolding wordNumber
 returns-4 c =
     let s = now (c .before .before .before .before .before .before .before .before .before .before .args .s) in
     c .unsigned2 .ensures ∙ ap unsignedOf (rest-of 1 s) ∙ rw (ne-eqb _ _ (c .before .before .before .before .before .before .if2 .left), ne-eqb _ _ (c .before .before .before .before .if3 .left), eq-eqb _ _ (c .before .before .if4 .taken)) refl
@@ -83,7 +83,7 @@ unsigned-requires-3 : tie.Need-unsigned-requires-3
 unsigned-requires-3 c κs = search needs
 
 returns-5 : tie.Need-returns-5
-unfolding numberOf
+unfolding wordNumber
 returns-5 c = c .unsigned3 .ensures ∙ rw (ne-eqb _ _ (c .before .before .before .before .before .if2 .left), ne-eqb _ _ (c .before .before .before .if3 .left), ne-eqb _ _ (c .before .if4 .left)) refl
 
 pub read-number-spec : {M : Type 1} → statement M

@@ -7,7 +7,7 @@ use lib.Seq.{length-take-le}
 use denote.Ref.{now}
 use borrow.Author.Needs.{needs}
 use Rattle.numerals.proofs.Decimals.{room, some, none-before, none-behind, too-many, no-point, both-sides, bad-front}
-use Rattle.numerals.specs.Numbers.{readOf, overTen}
+use Rattle.numerals.specs.Numbers.{wordDigits, overTen}
 use Rattle.words.proofs.Searches.{rest-of}
 use Rattle.numerals.proofs.reals.unsigned.Statement.{statement}
 use Rattle.numerals.proofs.reals.unsigned.Tie as tie
@@ -82,7 +82,7 @@ returns-6 c =
     let k : length s - p - 1 ≡ length s - (p + 1) = omega arith in
     both-sides s p (c .before .before .before .before .before .before .before .before .before .before .before .before .find .ensures) _ _ _ (c .before .before .before .before .before .before .before .before .before .before .before .if1 .left) (some (length s) p (c .before .before .before .before .before .before .before .before .before .if4 .left)) (room (length s) p (c .before .before .before .before .before .before .before .before .if5 .left))
     (sym (c .before .before .before .before .before .before .read-digits2 .ensures) ∙ c .before .before .before .before .n .given .1)
-    (c .before .read-digits3 .ensures ∙ ap (readOf 10 (c .before .before .before .before .n .given .0 .0)) (rest-of (p + 1) s))
+    (c .before .read-digits3 .ensures ∙ ap (wordDigits 10 (c .before .before .before .before .n .given .0 .0)) (rest-of (p + 1) s))
     (c .over-ten2 .ensures ∙ ap (λ (j : ℕ). overTen j (c .before .read-digits3 .result)) k)
 
 returns-7 : tie.Need-returns-7

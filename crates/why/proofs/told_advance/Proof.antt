@@ -1,12 +1,12 @@
--- `why::arrived` meets its contract: case by case. Assumes nothing.
+-- `why::told_advance` meets its contract: case by case. Assumes nothing.
 use mathlib.Core.Path.{_≡_, sym, ap, _∙_}
 use borrow.Author.Needs.{needs, sfits-of}
 use mir.Facts.{toZ-ofZ}
 use mir.Syntax.{w64}
 use Rattle.kepler.specs.Kepler.{arrivalOf}
-use Rattle.why.specs.Why.{arrivalBy, arrivedBy}
-use Rattle.why.proofs.arrived.Statement.{statement}
-use Rattle.why.proofs.arrived.Tie as tie
+use Rattle.why.specs.Why.{arrivalReason, toldAdvance}
+use Rattle.why.proofs.told_advance.Statement.{statement}
+use Rattle.why.proofs.told_advance.Tie as tie
 
 enum-known-x : tie.Need-enum-known-x
 enum-known-x c = search needs
@@ -34,23 +34,23 @@ arrival c =
     c .arrive .ensures ∙ ap (arrivalOf (a .m) (a .from)) (toZ-ofZ {w = w64} {z = v .x2 .given .0 .0 .lo} (sfits-of (c .before .struct-told .given .0 .1)))
 
 returns : tie.Need-returns
-unfolding arrivedBy
+unfolding toldAdvance
 returns c = simp (c .before .x .given .1)
 
 returns-2 : tie.Need-returns-2
-unfolding arrivedBy arrivalBy
+unfolding toldAdvance arrivalReason
 returns-2 c =
     let r = c .before .before in
     simp (r .before .before .before .x2 .given .1, sym (arrival r) ∙ c .enum-told .given .1)
 
 returns-3 : tie.Need-returns-3
-unfolding arrivedBy arrivalBy
+unfolding toldAdvance arrivalReason
 returns-3 c =
     let r = c .before .before .before in
     simp (r .before .before .before .x2 .given .1, sym (arrival r) ∙ c .before .e .given .1)
 
-pub arrived-spec : {M : Type 1} → statement M
-arrived-spec =
+pub told-advance-spec : {M : Type 1} → statement M
+told-advance-spec =
     tie.close
     (tie.spec
     enum-known-x

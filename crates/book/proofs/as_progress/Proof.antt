@@ -1,8 +1,8 @@
 -- By the case. Assumes nothing.
 use mathlib.Core.Path.{refl}
 use borrow.Author.Needs.{needs}
-use Rattle.book.proofs.as_turn.Statement.{statement}
-use Rattle.book.proofs.as_turn.Tie as tie
+use Rattle.book.proofs.as_progress.Statement.{statement}
+use Rattle.book.proofs.as_progress.Tie as tie
 
 enum-known-e : tie.Need-enum-known-e
 enum-known-e c = search needs
@@ -22,6 +22,6 @@ returns-2 c = rw (c .before .e2 .given .1) refl
 returns-3 : tie.Need-returns-3
 returns-3 c = rw (c .before .e3 .given .1) refl
 
-pub as-turn-spec : {M : Type 1} → statement M
-as-turn-spec =
+pub as-progress-spec : {M : Type 1} → statement M
+as-progress-spec =
     tie.close (tie.spec enum-known-e enum-known-e-2 enum-known-e-3 returns returns-2 returns-3)
