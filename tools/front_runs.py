@@ -541,7 +541,7 @@ def _():
 
 # ---- output that does not get through
 
-@case("a full device: 2 for list, watch, desk and help")
+@case("a full device: 2 for list, watch, desk, help and replay, which stops there")
 def _():
     with open("/dev/full", "wb") as full:
         hold(front("list", SAMPLE, stdout=full), 2, None, "No space left")
@@ -549,6 +549,9 @@ def _():
         hold(front("watch", stdout=full, given=REFUSED), 2, None, "No space left")
         hold(front("desk", stdout=full, given=b"root 2\n"), 2, None, "No space left")
         hold(front("help", stdout=full), 2, None, "No space left")
+        flown = front("replay", ROOT / "samples" / "rendezvous.bin", stdout=full)
+        hold(flown, 2, None, "No space left")
+        assert flown[2].count("Broken pipe") <= 1, "it went on writing"
 
 
 @case("closed output: 2 for list, watch, desk and help")
