@@ -14,8 +14,8 @@ use lib.Signed.{mag}
 use mir.Syntax.{Width}
 use mir.Val.{toZ, hbits}
 use mir.Facts.{toZ-pos}
-use Rattle.text.specs.Sign.{negative}
-use Rattle.text.proofs.Signs.{minus-one}
+use Rattle.signs.specs.Sign.{negative}
+use Rattle.signs.proofs.Halves.{minus-one}
 use Rattle.field.specs.Bytes.{le, bitsOf}
 
 -- one byte more in front

@@ -42,8 +42,8 @@ pub fn signed(n: u64) -> i64
 pub fn bits_of(z: i64) -> u64
     ensures { λ r. ⌜ r ≡ bitsOf z ⌝ }
 {
-    let m = text::magnitude(z);
-    if text::is_negative(z) {
+    let m = signs::magnitude(z);
+    if signs::is_negative(z) {
         return 0xffff_ffff_ffff_ffff - m;
     }
     m

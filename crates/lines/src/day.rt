@@ -3,8 +3,8 @@ ghost use Prim.Native.Nat.{_<_, _^_};
 ghost use mathlib.Core.Path.{_≡_};
 ghost use lib.IntN.{negsuc};
 ghost use Rattle.lines.specs.Days.{localOf, dayOf, csOf};
-use text::is_negative;
-use text::magnitude;
+use signs::is_negative;
+use signs::magnitude;
 
 pub struct Day {
     pub day: i64,

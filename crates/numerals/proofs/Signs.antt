@@ -10,7 +10,7 @@ use mir.Syntax.{w64}
 use mir.Val.{SFits, toZ}
 use mir.Facts.{toZ-pos}
 use borrow.Author.Tests.{le-leb, lt-leb}
-use Rattle.text.proofs.Signs.{minus-one}
+use Rattle.signs.proofs.Halves.{minus-one}
 use Rattle.numerals.specs.Numbers.{between}
 
 pub outside : (lo hi b : ℕ) → (b < lo) ⊎ (hi < b) → between lo hi b ≡ false

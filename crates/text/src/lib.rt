@@ -1,9 +1,5 @@
 // Text put into a lent buffer at a place: the whole of it where it fits, and no byte of it where it does not.
 // Each routine answers the place behind the text, or NOWHERE, where no later text fits either.
-mod sign;
-
-pub use sign::is_negative;
-pub use sign::magnitude;
 ghost use Prim.Native.Nat.{_+_, _%_, _≤_, _<_};
 ghost use mathlib.Core.Path.{_≡_};
 ghost use mathlib.Core.List.{[], _∷_};
@@ -53,8 +49,8 @@ pub fn number(buf: &mut [u8], at: usize, n: u64) -> usize
 pub fn signed(buf: &mut [u8], at: usize, z: i64) -> usize
     ensures { λ r. ⌜ Put (now (buf .entry)) at (signedText z) (now (buf .exit)) r ⌝ }
 {
-    let n = magnitude(z);
-    if is_negative(z) {
+    let n = signs::magnitude(z);
+    if signs::is_negative(z) {
         return minus(buf, at, n + 1);
     }
     number(buf, at, n)

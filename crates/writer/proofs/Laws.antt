@@ -19,7 +19,7 @@ use Rattle.session.specs.Kinds.{kindNumber, recordLength, topOf}
 use Rattle.session.specs.Layout.{kindIn, vehicleIn, byteIn, timeIn, numbersIn, allFinite, numberBytes, bytesOf}
 use Rattle.session.specs.Offset.{offsetBytes}
 use Rattle.session.specs.Decode.{allowedIn}
-use Rattle.text.specs.Sign.{negative}
+use Rattle.signs.specs.Sign.{negative}
 use Rattle.writer.specs.Write.{restBytes}
 
 -- the bits of numbers, one behind the other

@@ -5,7 +5,7 @@ use lib.Signed.{mag}
 use Prim.Native.Nat.{ℕ, _-_}
 use mathlib.Core.Path.{_≡_, sym, ap, _∙_}
 use mathlib.Core.Bool.{true, false}
-use Rattle.text.specs.Sign.{negative}
+use Rattle.signs.specs.Sign.{negative}
 use Rattle.field.proofs.Fields.{bits-neg, bits-pos}
 use borrow.Author.Needs.{needs}
 use Rattle.field.proofs.bits_of.Statement.{statement}

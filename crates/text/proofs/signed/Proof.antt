@@ -4,7 +4,7 @@ use mathlib.Core.Bool.{true, false}
 use mir.Syntax.{w64}
 use mir.Facts.{toZ-ofZ}
 use lib.Signed.{mag}
-use Rattle.text.specs.Sign.{negative}
+use Rattle.signs.specs.Sign.{negative}
 use Rattle.text.proofs.Signs.{text-neg, text-pos}
 use borrow.Author.Needs.{needs}
 use Rattle.text.proofs.signed.Statement.{statement}

@@ -5,7 +5,7 @@ use mir.Val.{toZ, ofZ}
 use mir.Facts.{toZ-ofZ, toZ-pos}
 use lib.IntN.{ℤ, pos, negsuc}
 use lib.Signed.{mag}
-use Rattle.text.specs.Sign.{negative}
+use Rattle.signs.specs.Sign.{negative}
 use Rattle.lines.proofs.DayLaws.{day-neg, day-pos}
 use native.Mathlib.Omega.{arith}
 use mathlib.Core.Path.{_≡_, sym, ap, _∙_}

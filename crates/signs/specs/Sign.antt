@@ -1,4 +1,4 @@
--- The sign of a whole number. Assumes nothing.
+-- The sign of a whole number. Assumes nothing: this is a definition.
 use mathlib.Core.Bool.{Bool, true, false}
 use lib.IntN.{ℤ, pos, negsuc}
 

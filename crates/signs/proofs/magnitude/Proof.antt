@@ -4,13 +4,13 @@ use mir.Val.{SFits, toZ, ofZ}
 use mir.Facts.{toZ-ofZ, toZ-pos}
 use lib.IntN.{ℤ, pos, negsuc, _-ℤ_}
 use lib.Signed.{mag}
-use Rattle.text.specs.Sign.{negative}
-use Rattle.text.proofs.Signs.{negative-test, mirrored, itself}
+use Rattle.signs.specs.Sign.{negative}
+use Rattle.signs.proofs.Halves.{negative-test, mirrored, itself}
 use native.Mathlib.Omega.{arith}
 use mathlib.Core.Path.{_≡_, refl, sym, ap, _∙_}
 use mathlib.Core.Bool.{true, false}
-use Rattle.text.proofs.sign.magnitude.Statement.{statement}
-use Rattle.text.proofs.sign.magnitude.Tie as tie
+use Rattle.signs.proofs.magnitude.Statement.{statement}
+use Rattle.signs.proofs.magnitude.Tie as tie
 
 sub-result : tie.Need-sub-result
 sub-result c =

@@ -2,7 +2,7 @@
 ghost use Prim.Native.Nat.{_<_, _^_};
 ghost use mathlib.Core.Path.{_≡_};
 ghost use lib.Signed.{mag};
-ghost use Rattle.text.specs.Sign.{negative};
+ghost use Rattle.signs.specs.Sign.{negative};
 
 pub fn is_negative(z: i64) -> bool
     ensures { λ r. ⌜ r ≡ negative z ⌝ }
