@@ -36,7 +36,7 @@ CASES = {
     "writer": [("writer/specs/Write", REFUSED)],
     "replay": [("replay/specs/Replay", REFUSED), ("flight/specs/Flight", REFUSED), ("flight/specs/Flight", r"velocityComponents (4)"), ("solve/specs/Answers", r"^advancedNumber .*= (7|29)$")],
     "reader": [("session/specs/Decode", REFUSED), ("session/specs/Offset", REFUSED), ("session/specs/Read", REFUSED)],
-    "listing": [("session/specs/Decode", REFUSED), ("session/specs/Offset", REFUSED), ("session/specs/Read", REFUSED), ("lines/specs/Lines", REFUSED)],
+    "listing": [("session/specs/Decode", REFUSED), ("session/specs/Offset", REFUSED), ("session/specs/Read", REFUSED), ("text/specs/Text", REFUSED)],
     "stream": [("session/specs/Decode", REFUSED), ("session/specs/Offset", REFUSED), ("stream/specs/Stream", REFUSED)],
 }
 
