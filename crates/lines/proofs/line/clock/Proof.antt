@@ -6,12 +6,12 @@ use mir.Val.{toZ, ofZ}
 use mir.Facts.{toZ-ofZ}
 use Rattle.text.specs.Pieces.{then}
 use Rattle.text.proofs.Lays.{one}
 use Rattle.lines.specs.Days.{localOf, dayOf, csOf}
 use Rattle.lines.proofs.Locals.{day-fits, local-small}
-use Rattle.tracks.specs.Tracks.{clockPieces}
+use Rattle.lines.specs.Lines.{clockPieces}
 use borrow.Author.Needs.{needs}
-use Rattle.tracks.proofs.clock.Statement.{statement}
-use Rattle.tracks.proofs.clock.Tie as tie
+use Rattle.lines.proofs.line.clock.Statement.{statement}
+use Rattle.lines.proofs.line.clock.Tie as tie
 
 day-of-requires : tie.Need-day-of-requires
 day-of-requires c κs = search needs

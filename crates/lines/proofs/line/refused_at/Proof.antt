@@ -1,13 +1,10 @@
 -- Five pieces. Assumes nothing.
 use Rattle.text.specs.Pieces.{then}
 use Rattle.text.proofs.Lays.{one}
-use Rattle.tracks.specs.Tracks.{refusedPieces}
+use Rattle.lines.specs.Lines.{refusedPieces}
 use borrow.Author.Needs.{needs}
-use Rattle.tracks.proofs.refused.Statement.{statement}
-use Rattle.tracks.proofs.refused.Tie as tie
-
-slice-aggregate-bytes : tie.Need-slice-aggregate-bytes
-slice-aggregate-bytes c = search needs
+use Rattle.lines.proofs.line.refused_at.Statement.{statement}
+use Rattle.lines.proofs.line.refused_at.Tie as tie
 
 bytes-requires : tie.Need-bytes-requires
 bytes-requires c κs = search needs
@@ -15,8 +12,8 @@ bytes-requires c κs = search needs
 number-requires : tie.Need-number-requires
 number-requires c κs = search needs
 
-slice-aggregate-bytes-2 : tie.Need-slice-aggregate-bytes-2
-slice-aggregate-bytes-2 c = search needs
+slice-aggregate-bytes : tie.Need-slice-aggregate-bytes
+slice-aggregate-bytes c = search needs
 
 bytes-requires-2 : tie.Need-bytes-requires-2
 bytes-requires-2 c κs = search needs
@@ -34,14 +31,13 @@ returns : tie.Need-returns
 unfolding refusedPieces
 returns c = then (c .before .before .before .before .before .before .before .before .before .before .before .before .before .before .before .before .before .before .before .bytes .ensures) (then (c .before .before .before .before .before .before .before .before .before .before .before .before .before .before .before .number .ensures) (then (c .before .before .before .before .before .before .before .before .before .before .bytes2 .ensures) (then (c .before .before .before .before .before .before .number2 .ensures) (one (c .before .before .byte .ensures)))))
 
-pub refused-spec : {M : Type 1} → statement M
-refused-spec =
+pub refused-at-spec : {M : Type 1} → statement M
+refused-at-spec =
     tie.close
     (tie.spec
-    slice-aggregate-bytes
     bytes-requires
     number-requires
-    slice-aggregate-bytes-2
+    slice-aggregate-bytes
     bytes-requires-2
     number-requires-2
     byte-requires
