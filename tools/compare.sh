@@ -15,6 +15,7 @@ second=target/second/second
 
 stored() {
     python3 tools/stored.py --check
+    python3 tools/why.py --all crates/desk/stdin crates/desk/stdout
     "$second" desk <crates/desk/stdin >"$room/stored"
     python3 second/compare.py crates/desk/stdout "$room/stored" crates/desk/stdin
 }

@@ -1,16 +1,22 @@
 #!/usr/bin/env python3
 """The wrong builds: each crates/CRATE/must-fail/LABEL.edit is applied to a copy of its crate, and the prover must refuse
-what comes out. `edits.py [CRATE|CRATE/LABEL ..]`, all of them with no word; the crates must be proved.
+what comes out. `edits.py [CRATE|CRATE/LABEL ..]`, all of them with no word; the crates must be proved. `edits.py
+--as-proved` has the words of a `rt check` that is running as its standard input, passes them on, and tries the edits of a
+crate once it is told as proved.
 
 `rt must-fail` checks the whole crate anew for each edit. Two things make it quicker here, and a refusal is the prover's
 own either way. A copy begins with what the crate's own proof has checked, which its rlib holds, as the prover's
 incremental folder, so that only what an edit alters is checked. And edits of the bodies of several functions of a crate
 are tried in one copy: a function's proof rests on its own code and on the contracts of what it calls, so that what the
 prover says against it there it says of the edit alone. What it says only because another function is not proved, it says
-in words of their own, which count for nothing. An edit that alters anything but one function's body is tried alone, and
-so is one against which nothing was said.
+in words of their own, which count for nothing. An edit that alters anything but the bodies of functions is tried alone,
+and so is one against which nothing was said.
 
-RT_JOBS copies are tried side by side. First an edit that alters nothing is tried, beside wrong ones and alone: were it told
+An edit must be refused because a fact fails. Where it only takes a step away that the proof names, or adds one, the prover
+says that there is no such step, whatever the contract is: that counts for nothing either, and an edit against which no
+more is said is told as not refused.
+
+RT_JOBS copies are tried side by side. Last an edit that alters nothing is tried, beside wrong ones and alone: were it told
 as refused, no refusal would say anything. The last line is the count; ends with 1 where an edit is not refused, or is none."""
 import concurrent.futures
 import copy
@@ -19,33 +25,35 @@ import re
 import shutil
 import sys
 import tempfile
+import threading
 import time
 
 from prover import JOBS, ROOT, Prover
 
 ROOMS = ROOT / "target" / "edits"
 FUNCTION = re.compile(r'^(?:pub )?(?:extern "C" )?fn (\w+)(?:(?!^\}).)*?^\{\n(.*?)^\}\n', re.M | re.S)
+NO_FACT = re.compile(r"was not admitted|has no `Need-\S* that can be named|record `\S* has no field|expected type `tie\.Need-")
 
 
 class BadEdit(Exception):
     """An edit that does not say what to alter."""
 
 
-def proof_of(function):
-    """The folder of the proof of a function, which is (its file, its name)."""
+def path_of(function):
+    """The modules of a function, which is (its file, its name), and the name."""
     file, name = function
     module = file.removeprefix("src/").removesuffix(".rt").removesuffix("/mod")
-    return "/".join(["proofs", *([] if module in ("lib", "main") else [module]), name])
+    return [*([] if module in ("lib", "main") else module.split("/")), name]
 
 
 class Edit:
-    """A wrong build: what it alters, and the function in whose body all of that stands, if it is one."""
+    """A wrong build: what it alters, and the functions in whose bodies all of that stands; none if some of it does not."""
 
     def __init__(self, path):
         self.crate, self.name = path.parent.parent.name, f"{path.parent.parent.name}/{path.stem}"
         self.folder = path.parent.parent
         self.pairs = list(self.read(path))
-        self.function = self.only_function()
+        self.functions = self.altered_functions()
 
     @staticmethod
     def read(path):
@@ -60,13 +68,13 @@ class Edit:
                 yield file, old, line[4:].removeprefix(" ")
                 old = None
 
-    def only_function(self):
-        found = set()
+    def altered_functions(self):
+        found = []
         for file, old, _ in self.pairs:
             text = (self.folder / file).read_text() if file and (self.folder / file).is_file() else ""
             at = text.find(old or "\0")
-            found |= {(file, f[1]) for f in FUNCTION.finditer(text) if f.start(2) <= at < f.end(2)} or {None}
-        return found.pop() if len(found) == 1 else None
+            found.append({(file, f[1]) for f in FUNCTION.finditer(text) if f.start(2) <= at < f.end(2)})
+        return set().union(*found) if all(found) else set()
 
     def apply(self, room):
         """Alters the copy of the crate that lies in a room."""
@@ -112,20 +120,30 @@ class Trials:
             shutil.copytree(checked, room / "kept" / self.folder)
 
 
+def facts_in(said, folder="(?:src|specs|proofs)", function=r"\S+"):
+    """Where the prover says that a fact fails, place by place: in a folder of the crate, or of a function that has no proof of
+    its own and needs none as it was."""
+    errors = re.finditer(rf"^(?:note: )?\S*?/{folder}/(\S*?): error(.*)", said, re.M)
+    unclosed = re.finditer(rf"^fn ({function}): no proof: .*`search` does not close", said, re.M)
+    return [error[1] for error in errors if not NO_FACT.search(error[2])] + [one[1] for one in unclosed]
+
+
 def verdict(status, said):
     """(refused, in words) of a copy with one edit in it."""
     if status == 1 and re.search(r"^logic=not-proved", said, re.M):
-        place = re.search(r"^(?:note: )?\S*?/(?:src|specs|proofs)/(\S*?): error", said, re.M)
-        return True, "refused" + (f" at {place[1]}" if place else "")
+        places = facts_in(said)
+        return (True, f"refused at {places[0]}") if places else (False, "NOT BY A FACT: only steps that the proof names are not there")
     if status == 0:
         return False, "NOT REFUSED: the crate is proved with this edit in it"
     return False, f"BAD EDIT: it did not reach the prover (status {status})\n" + "\n".join(said.splitlines()[-5:])
 
 
-def said_against(function, said):
-    """Where the prover refuses a function for what stands in it, others being altered too; None where it does not say."""
-    lines = re.finditer(rf"^\S*?/{re.escape(proof_of(function))}/(\S*?): error: (.*)", said, re.M)
-    return next((f"{function[1]}/{line[1]}" for line in lines if "was not admitted" not in line[2]), None)
+def said_against(edit, said):
+    """Where the prover refuses an edit's function for what stands in it, others being altered too; None where it does not."""
+    for path in map(path_of, sorted(edit.functions)):
+        if places := facts_in(said, "/".join(["proofs", *path]), "::".join([edit.crate, *path])):
+            return places[0] if "::" in places[0] else f"{path[-1]}/{places[0]}"
+    return None
 
 
 def try_together(trials, edits):
@@ -144,7 +162,7 @@ def try_together(trials, edits):
     if len(edits) == 1:
         refused, words = verdict(status, said)
         return {edits[0]: (refused, f"{words} {took}")}
-    told = {edit: said_against(edit.function, said) for edit in edits} if status == 1 else {}
+    told = {edit: said_against(edit, said) for edit in edits} if status == 1 else {}
     return {edit: (True, f"refused at {place}, with {len(edits) - 1} beside it {took}") for edit, place in told.items() if place}
 
 
@@ -152,8 +170,8 @@ def together(edits):
     """The edits of a crate in groups for one copy each: in a group no function is altered twice."""
     groups = []
     for edit in edits:
-        fits = (group for group in groups if None not in {one.function for one in group} | {edit.function})
-        free = next((group for group in fits if edit.function not in {one.function for one in group}), None)
+        fits = (group for group in groups if all(edit.functions and one.functions for one in group))
+        free = next((group for group in fits if all(edit.functions.isdisjoint(one.functions) for one in group)), None)
         if free:
             free.append(edit)
         else:
@@ -162,27 +180,49 @@ def together(edits):
 
 
 def wanted(words):
-    """The edits asked for, by crate, the crates with the most to check first."""
+    """The edits asked for in groups, by crate, the crates with the most to check first."""
     edits = {}
     for path in sorted(ROOT.glob("crates/*/must-fail/*.edit")):
         edit = Edit(path)
         if not words or edit.crate in words or edit.name in words:
             edits.setdefault(edit.crate, []).append(edit)
     size = {crate: sum(f.stat().st_size for f in (ROOT / "crates" / crate).rglob("*.antt")) for crate in edits}
-    return [edits[crate] for crate in sorted(edits, key=lambda crate: -size[crate])]
+    return {crate: together(edits[crate]) for crate in sorted(edits, key=lambda crate: -size[crate])}
 
 
-def try_all(trials, groups, tell):
-    """Tries groups side by side; answers the edits that nothing was said of."""
-    left = []
+def told_as_proved(lines):
+    """The crates that a `rt check` tells as proved, while its words are passed on."""
+    for line in lines:
+        print(line, end="", flush=True)
+        if proved := re.match(r"rt: (\w+) proved ", line):
+            yield proved[1]
+
+
+class Tally:
+    """What became of the edits, told as it comes."""
+
+    def __init__(self):
+        self.refused, self.wrong, self.unsaid, self.lock = 0, [], [], threading.Lock()
+
+    def take(self, edits, answers):
+        """The answers to the edits of one copy; those that nothing was said of are kept."""
+        with self.lock:
+            for edit in edits:
+                if edit not in answers:
+                    self.unsaid.append(edit)
+                    continue
+                refused, words = answers[edit]
+                print(f"{edit.name}: {words}", flush=True)
+                self.refused += refused
+                self.wrong += [] if refused else [edit.name]
+
+
+def try_all(trials, groups, tally):
+    """Tries groups side by side, each as it comes."""
     with concurrent.futures.ThreadPoolExecutor(JOBS) as pool:
-        tried = {pool.submit(try_together, trials, group): group for group in groups}
-        for one in concurrent.futures.as_completed(tried):
-            answers = one.result()
-            left += [edit for edit in tried[one] if edit not in answers]
-            for edit, answer in answers.items():
-                tell(edit, *answer)
-    return left
+        tried = [pool.submit(lambda group: tally.take(group, try_together(trials, group)), group) for group in groups]
+        for one in tried:
+            one.result()
 
 
 def tells_apart(trials, groups):
@@ -196,24 +236,28 @@ def tells_apart(trials, groups):
 
 
 def main():
-    count, wrong = 0, []
+    as_proved = sys.argv[1:] == ["--as-proved"]
+    edits, trials, tally = wanted([] if as_proved else sys.argv[1:]), Trials(), Tally()
+    proved = told_as_proved(sys.stdin) if as_proved else list(edits)
+    tried = {}
 
-    def tell(edit, refused, words):
-        nonlocal count
-        print(f"{edit.name}: {words}", flush=True)
-        count += refused
-        wrong.extend([] if refused else [edit.name])
+    def groups():
+        for crate in proved:
+            tried[crate] = edits.get(crate, [])
+            yield from tried[crate]
 
-    trials, groups = Trials(), [group for edits in wanted(sys.argv[1:]) for group in together(edits)]
-    if not tells_apart(trials, groups):
-        print("an edit that alters nothing is told as refused: nothing was tried")
+    try_all(trials, groups(), tally)
+    unsaid, tally.unsaid = tally.unsaid, []
+    try_all(trials, ([edit] for edit in unsaid), tally)
+    if not tells_apart(trials, [group for crate in edits for group in tried.get(crate, [])]):
+        print("an edit that alters nothing is told as refused: what was told of the others says nothing")
         return 2
-    left = try_all(trials, groups, tell)
-    try_all(trials, [[edit] for edit in left], tell)
-    for name in wrong:
+    for crate in edits.keys() - tried.keys():
+        print(f"{crate}: not told as proved, and its wrong builds were not tried")
+    for name in tally.wrong:
         print(f"not refused: {name}")
-    print(f"{count} must-fail edits refused, {len(wrong)} not")
-    return 1 if wrong else 0
+    print(f"{tally.refused} must-fail edits refused, {len(tally.wrong)} not")
+    return 1 if tally.wrong else 0
 
 
 if __name__ == "__main__":

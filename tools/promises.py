@@ -44,7 +44,7 @@ def names_cited(page):
 
 
 def faults_of_names(page):
-    """What a row cites and the crates do not have."""
+    """What the page cites and the crates do not have."""
     written = "".join(path.read_text() for path in ROOT.glob("crates/*/specs/*.antt"))
     for routine, definitions, edits in names_cited(page):
         for name in definitions:
@@ -53,6 +53,9 @@ def faults_of_names(page):
         for name in edits:
             if not (ROOT / "crates" / routine.split("::")[0] / "must-fail" / f"{name}.edit").exists():
                 yield f"docs/PROMISES.md: {routine} cites the edit {name}, which its crate does not have"
+    for crate, name in re.findall(r"`(\w+)/(\w+)`", page):
+        if not (ROOT / "crates" / crate / "must-fail" / f"{name}.edit").exists():
+            yield f"docs/PROMISES.md cites the edit {crate}/{name}, which is not there"
 
 
 def main():

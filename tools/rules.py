@@ -1,6 +1,7 @@
 #!/usr/bin/env python3
 """What the pages say of crates/ is so: every name that a row of docs/RULES.md cites is defined in the file that it names,
-and the picture of docs/ARCHITECTURE.md has each crate once, above all that it stands on."""
+what docs/FORMS.md shows stands where it says, and the picture of docs/ARCHITECTURE.md has each crate once, above all that
+it stands on."""
 import pathlib
 import re
 import sys
@@ -15,6 +16,17 @@ def defines(text, name):
     """Whether a file defines a name: a definition or a law with its type, a record, or a type of the code."""
     word = re.escape(name)
     return re.search(rf"^\s*(?:(?:abbrev|unfoldable) )?(?:pub )?(?:record {word} |(?:enum|struct) {word} |{word} :)", text, re.M)
+
+
+def faults_of_forms():
+    """What a row's last cell names and crates/ does not have there: a file, what a file has, a routine of a crate."""
+    for row in re.findall(r"^\| .* \| (.*) \|$", (ROOT / "docs" / "FORMS.md").read_text(), re.M):
+        named = [(path, name) for path, names in re.findall(r"(crates/[\w/.]*\w)((?:, `\w+`)*)", row) for name in re.findall(r"\w+", names) or [""]]
+        named += [(f"crates/{crate}/src/lib.rt", name) for crate, name in re.findall(r"`(\w+)::(\w+)`", row)]
+        for path, name in named:
+            text = (ROOT / path).read_text() if (ROOT / path).is_file() else ""
+            if not re.search(rf"\b(?:fn|const|enum|struct) {name}\b" if name else ".", text):
+                yield f"docs/FORMS.md: {path} is not there, or does not have {name}"
 
 
 def faults_of_picture():
@@ -37,7 +49,7 @@ def faults_of_picture():
 
 
 def main():
-    faults, names, files = list(faults_of_picture()), 0, set()
+    faults, names, files = [*faults_of_picture(), *faults_of_forms()], 0, set()
     for number, line in enumerate(PAGE.read_text().split("\n"), 1):
         for cited, file in CITED.findall(line):
             path = ROOT / "crates" / (file if file.endswith(".rt") else f"{file}.antt")

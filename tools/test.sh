@@ -6,8 +6,11 @@ home=$(cd "$(dirname "${BASH_SOURCE[0]}")/.." && pwd -P)
 . "$home/tools/front.sh"
 cd "$home"
 
-passed=0 failed=0 wrong=() left=() whole=no
+passed=0 failed=0 whole=no ends='' beside=''
 at_end=verdict
+
+# What became of a part, as a line of the file that the verdict is made of.
+ended() { printf '%s: %s\n' "$1" "$2" >>"$ends"; }
 
 part() { # NAME COMMAND..
     local status=0 began=$SECONDS
@@ -15,9 +18,9 @@ part() { # NAME COMMAND..
     "${@:2}" || status=$?
     printf -- '-- %d s\n' $((SECONDS - began))
     case $status in
-    0) passed=$((passed + 1)) ;;
-    77) left+=("$1") ;;
-    *) failed=$((failed + 1)) && wrong+=("$1") ;;
+    0) ended passed "$1" ;;
+    77) ended 'NOT RUN' "$1" ;;
+    *) ended FAILED "$1" ;;
     esac
 }
 
@@ -36,10 +39,9 @@ proofs() {
     printf '\n== proofs, programs, wrong builds\n'
     bash tools/proofs.sh 2>&1 | tee "$log" | sed -u '/^[0-9]* passed, [0-9]* failed$/d' || true
     if [[ $(tail -n 1 "$log") =~ ^([0-9]+)\ passed,\ ([0-9]+)\ failed$ ]]; then
-        passed=$((passed + BASH_REMATCH[1])) failed=$((failed + BASH_REMATCH[2]))
-        [ "${BASH_REMATCH[2]}" -eq 0 ] || wrong+=(proofs)
+        passed=${BASH_REMATCH[1]} failed=${BASH_REMATCH[2]}
     else
-        failed=$((failed + 1)) wrong+=("proofs, which gave no count")
+        ended FAILED "proofs, which gave no count"
     fi
     printf -- '-- %d s\n\n== programs and the library made ready\n' $((SECONDS - began))
     began=$SECONDS
@@ -52,22 +54,38 @@ proofs() {
     export CABIN_BUILD=no
 }
 
+# The library's parts go on beside the comparisons, since each of the two keeps little more than one processor busy. What they
+# print is kept for its place.
+library_parts() {
+    part "the library: its header" bash tools/library.sh header
+    part "the library: the example" bash tools/library.sh example
+    part "the library: requests by a C driver" bash tools/library.sh requests
+    part "the library: sessions by a C driver" bash tools/library.sh records
+    part "the library: settings by a C driver" bash tools/library.sh versions
+}
+
+# How many parts ended so.
+count() { { grep "^$1: " "$ends" 2>/dev/null || true; } | wc -l; }
+
 # Printed at the end, wherever that is.
 verdict() {
-    if [ "$whole" = no ]; then
-        failed=$((failed + 1))
-        wrong+=("the gate itself, which was cut off")
-    fi
+    local faults
+    [ -z "$beside" ] || kill "$beside" 2>/dev/null || true
     printf '\n'
-    for one in "${left[@]}"; do printf 'NOT RUN: %s\n' "$one"; done
-    for one in "${wrong[@]}"; do printf 'FAILED: %s\n' "$one"; done
+    sed -n '/^NOT RUN: /p' "$ends" 2>/dev/null || true
+    [ "$failed" -eq 0 ] || printf 'FAILED: proofs\n'
+    sed -n '/^FAILED: /p' "$ends" 2>/dev/null || true
+    faults=$((failed + $(count FAILED)))
+    [ "$whole" = yes ] || { faults=$((faults + 1)) && printf 'FAILED: the gate itself, which was cut off\n'; }
     printf 'in %d min %d s\n' $((SECONDS / 60)) $((SECONDS % 60))
-    printf '%s passed, %s failed\n' "$passed" "$failed"
+    printf '%s passed, %s failed\n' $((passed + $(count passed))) "$faults"
 }
 
 need_kit
 need python3 python3
 lock
+ends=$keep/ends
+: >"$ends"
 fetch >"$keep/fetch.log" 2>&1 </dev/null &
 fetching=$!
 part "layout" rt fmt --check
@@ -87,6 +105,8 @@ for one in chromium parallel systemd-analyze mount; do
     part "the night run, with $one" python3 tools/night_runs.py --with "$one"
 done
 part "stored requests" bash tools/compare.sh stored
+library_parts >"$keep/beside.log" 2>&1 </dev/null &
+beside=$!
 part "fresh requests" bash tools/compare.sh requests
 part "solves stopped and gone on with" bash tools/compare.sh stops
 part "the height behind the burn" bash tools/compare.sh heights
@@ -96,10 +116,7 @@ part "fresh sessions in parts" bash tools/compare.sh parts
 part "settings" bash tools/compare.sh settings
 part "solves graded by settings" bash tools/compare.sh grades
 part "sessions flown again" bash tools/compare.sh flights
-part "the library: its header" bash tools/library.sh header
-part "the library: the example" bash tools/library.sh example
-part "the library: requests by a C driver" bash tools/library.sh requests
-part "the library: sessions by a C driver" bash tools/library.sh records
-part "the library: settings by a C driver" bash tools/library.sh versions
+wait "$beside"
+cat "$keep/beside.log"
 whole=yes
-[ "$failed" -eq 0 ]
+[ "$failed" -eq 0 ] && [ "$(count FAILED)" -eq 0 ]

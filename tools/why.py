@@ -1,10 +1,11 @@
 #!/usr/bin/env python3
 """why: which reasons a run of requests with `why` in front is told (02, T-07).
 
-  tools/why.py REQUESTS ANSWERS
+  tools/why.py [--all] REQUESTS ANSWERS
 
-Counts the different lines, with the numbers taken out, and looks for every reason that a solve can give: the test's number, its name
-and what it must be. Exits 1 where one is not told, or one is told that a solve cannot give."""
+Counts the different lines, with the numbers taken out, and holds each to what a solve can say: the test's number, its name and what it
+must be. Exits 1 where a reason is told that a solve cannot give; with --all also where one that it can give is not told, which requests
+by chance cannot promise."""
 import collections
 import pathlib
 import re
@@ -83,7 +84,7 @@ def asked(requests, answers):
             yield words[1], line_of(answer)
 
 
-def main(requests, answers):
+def main(requests, answers, every):
     texts = [pathlib.Path(name).read_bytes().decode("latin-1") for name in (requests, answers)]
     lines = collections.Counter(asked(*texts))
     told = {(routine, reason_of(line)) for routine, line in lines}
@@ -92,10 +93,12 @@ def main(requests, answers):
         for routine, reason in sorted(some):
             print(f"{what}: {routine}: {reason}")
     print(f"{sum(lines.values())} requests with why, {len(lines)} different lines, {len(told & all_of_them)} of {len(all_of_them)} reasons told")
-    return 1 if told != all_of_them else 0
+    return 1 if told - all_of_them or (every and all_of_them - told) else 0
 
 
 if __name__ == "__main__":
-    if len(sys.argv) != 3:
+    every = sys.argv[1:2] == ["--all"]
+    files = sys.argv[2:] if every else sys.argv[1:]
+    if len(files) != 2:
         sys.exit(__doc__)
-    sys.exit(main(*sys.argv[1:]))
+    sys.exit(main(*files, every))

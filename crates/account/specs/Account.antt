@@ -5,6 +5,7 @@ use mathlib.Core.List.{List, [], _∷_, _++_}
 use mathlib.Core.Bool.{Bool, true, false, cond}
 use lib.ListN.{length, drop}
 use lib.Dec.{ltb}
+use Rattle.text.specs.Text.{ascii}
 use Rattle.text.specs.Pieces.{concat}
 use Rattle.session.specs.declared.record.Record.{Record}
 use Rattle.session.specs.declared.Reading.{Reading}
@@ -14,7 +15,8 @@ use Rattle.session.specs.Read.{start, readAt}
 use Rattle.flight.specs.declared.Mu.{Mu}
 use Rattle.replay.specs.declared.Replay.{Replay}
 use Rattle.replay.specs.Replay as S
-use Rattle.tracks.specs.Tracks.{headingPieces, refusedPieces, recordPieces, vehiclePieces}
+use Rattle.tracks.specs.Tracks.{headingPieces, recordPieces, vehiclePieces}
+use Rattle.lines.specs.Lines.{refusedPieces}
 use Rattle.account.specs.declared.Next.{Next}
 use Rattle.account.specs.declared.Next.the-variants.{Heading, At, First, Second, Done}
 use Rattle.account.specs.declared.Told.{Told}
@@ -36,7 +38,7 @@ unfoldable pub stepFor : Mu → Replay → Reading → Step
 stepFor mu p (A.Record r q) = lineThen (recordPieces (q .offset) r (S.stepOf mu p r .answer)) (At q) (S.stepOf mu p r .replay)
 stepFor mu p (A.Offset q) = lineThen [] (At q) p
 stepFor mu p A.End = lineThen [] First p
-stepFor mu p (A.Refused n q) = lineThen (refusedPieces n (q .at)) First p
+stepFor mu p (A.Refused n q) = lineThen (refusedPieces (ascii "refused ") n (q .at)) First p
 
 abbrev pub stepAt : Mu → List ℕ → Place → Replay → Step
 stepAt mu s q p = stepFor mu p (readAt s q)

@@ -112,7 +112,7 @@ fn step_at(mu: Mu, s: &[u8], place: Place, p: Replay, line: &mut [u8]) -> Told
         Reading::Refused(number, at) => {
             let q = at.at;
             Told {
-                length: tracks::refused(line, number, q as u64),
+                length: lines::refused_at(line, b"refused ", number as u64, q as u64),
                 next: Next::First,
                 replay: p,
             }

@@ -90,7 +90,7 @@ fn is_clear(k: Centre, near: f64) -> bool
 }
 
 // The answer, unless the apsides are refused or the pericentre is too low.
-fn judged(k: Centre, change: Vector, a: Apsides) -> Burn
+fn cleared(k: Centre, change: Vector, a: Apsides) -> Burn
     ensures { λ r. ⌜ r ≡ clearedOf k change a ⌝ }
 {
     match a {
@@ -116,7 +116,7 @@ fn changed(k: Centre, active: State, new: Vector) -> Burn
 {
     let change = vector::difference(new, vector::velocity(active));
     let after = vector::state_of(vector::position(active), new);
-    judged(k, change, apsides::periapo(k.mu, after))
+    cleared(k, change, apsides::periapo(k.mu, after))
 }
 
 fn sped(k: Centre, active: State, v: Speeds) -> Burn
@@ -138,7 +138,7 @@ fn beside(k: Centre, active: State, p: Passive, ra: f64, aa: f64) -> Burn
     Burn::Refused(26)
 }
 
-fn above(k: Centre, active: State, p: Passive) -> Burn
+fn coelliptic_of(k: Centre, active: State, p: Passive) -> Burn
     ensures { λ r. ⌜ r ≡ coellipticOf k active p ⌝ }
 {
     let ra = vector::length(vector::position(active));
@@ -149,7 +149,7 @@ fn from_point(k: Centre, active: State, c: Brought) -> Burn
     ensures { λ r. ⌜ r ≡ fromPoint k active c ⌝ }
 {
     match c {
-        Brought::Moved(s) => above(k, active, coelliptic::passive_of(k.mu, s)),
+        Brought::Moved(s) => coelliptic_of(k, active, coelliptic::passive_of(k.mu, s)),
         Brought::Refused(n) => Burn::Refused(n),
     }
 }

@@ -1,6 +1,7 @@
 // What the programs read and write around the proved routines. What comes in, and what becomes of what goes out, is the
 // world's: the contracts say what is certain of the lent buffers.
 use libc::STDERR_FILENO;
+use libc::STDIN_FILENO;
 use libc::STDOUT_FILENO;
 ghost use Rattle.io.specs.Counts.{Counts};
 
@@ -47,6 +48,21 @@ pub fn read_whole(fd: i32, name: &[u8], buf: &mut [u8]) -> Input
     Input {
         length,
         failed: false,
+    }
+}
+
+// One read of standard input: what is there, or no byte at its end. Where the read fails standard error says so.
+pub fn read_some(buf: &mut [u8]) -> Input
+    ensures { λ r. ⌜ Counts (r .length) (now (buf .exit)) ⌝ }
+{
+    let got = libc::read(STDIN_FILENO, buf);
+    let failed = got < 0;
+    if failed {
+        os::fail(b"standard input");
+    }
+    Input {
+        length: io::count(got, buf),
+        failed,
     }
 }
 

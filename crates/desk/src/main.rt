@@ -2,7 +2,6 @@
 // of the settings, which is read once, ahead of the first request; where it cannot be read, a message goes to standard
 // error and nothing is answered. The work is in `reply`; this reads the settings and the lines.
 use libc::STDERR_FILENO;
-use libc::STDIN_FILENO;
 use split::Found;
 use text::Made;
 ghost use Prim.Native.Nat.{_≤_};
@@ -57,19 +56,17 @@ fn take_some(used: &[u8], line: &mut [u8], kept: usize) -> Fed
     ensures { λ r. ⌜ Inside r (length (now (line .exit))) ⌝ }
 {
     let mut input = [0u8; 65536];
-    let got = libc::read(STDIN_FILENO, &mut input);
-    if got < 0 {
-        os::fail(b"standard input");
+    let got = console::read_some(&mut input);
+    if got.failed {
         return Fed::Stopped;
     }
-    if got == 0 {
+    if got.length == 0 {
         if kept > 0 {
             answer(used, &line[..kept]);
         }
         return Fed::Stopped;
     }
-    let n = io::count(got, &input);
-    feed(used, &input[..n], line, kept)
+    feed(used, &input[..got.length], line, kept)
 }
 
 // The answers to the lines of standard input. A proved loop has to end, and nothing says that the input does: the turns are

@@ -11,7 +11,7 @@ use Rattle.flight.specs.declared.Flight.{Flight}
 use Rattle.replay.specs.declared.Vehicle.{Vehicle}
 use Rattle.replay.specs.declared.Vehicle.the-variants.{Unset, Set}
 use Rattle.replay.specs.declared.Replay.{Replay}
-use Rattle.library_replay.specs.Steps.{setIn, bodyIn, vehicleTime, stateHeld, bodyFrom, vehicleFrom, replayFrom, heldWholes, heldNumbers}
+use Rattle.held_replay.specs.Held.{setIn, bodyIn, vehicleTime, stateHeld, bodyFrom, vehicleFrom, replayFrom, heldWholes, heldNumbers}
 
 -- a vehicle as memory holds it: its body is 0 or 1, and its time has 64 bits
 pub record Holds (v : Vehicle) : Type 0 where

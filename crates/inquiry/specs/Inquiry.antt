@@ -10,7 +10,8 @@ use Rattle.settings.specs.declared.Looked.the-variants.{Found, Refused}
 use Rattle.settings.specs.History.{lookUp}
 use Rattle.reason.specs.declared.Reason.{Reason}
 use Rattle.reason.specs.declared.Reason.the-variants.{Settings}
-use Rattle.why.specs.Why.{whyAdvance, whyTransfer, whyTime, whyApsides}
+use Rattle.why.specs.Why.{whyAdvance, whyTransfer}
+use Rattle.why_direct.specs.Why.{whyTime, whyApsides}
 
 -- 30 and 23 are ahead of the solve's own numbers where a version is named; else the settings are not looked at
 unfoldable pub foundBy : Looked → Reason → Reason

@@ -51,7 +51,7 @@ pub fn reason_of(used: &[u8], given: Solve) -> Reason
             state,
             sine,
             cosine,
-        } => why::time_theta(mu, state, sine, cosine),
-        Solve::Apsides { mu, state } => why::periapo(mu, state),
+        } => why_direct::time_theta(mu, state, sine, cosine),
+        Solve::Apsides { mu, state } => why_direct::periapo(mu, state),
     }
 }

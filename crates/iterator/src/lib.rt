@@ -72,7 +72,7 @@ pub fn judged(asked: f64, t: f64) -> Judgement
 }
 
 // d brought into 1..w-1; 1 where there is nothing between.
-fn brought(d: u64, w: u64) -> u64
+fn brought_into(d: u64, w: u64) -> u64
     ensures { λ r. ⌜ r ≡ broughtInto d w ⌝ }
 {
     if d < 1 {
@@ -92,7 +92,7 @@ fn secant(asked: f64, w: u64, below: f64, above: f64) -> u64
     ensures { λ r. ⌜ r ≡ secantOf asked w below above ⌝ }
 {
     let q = (asked - below) / (above - below);
-    brought(real::cut(q * real::nearest_whole(w)), w)
+    brought_into(real::cut(q * real::nearest_whole(w)), w)
 }
 
 // How far above lo the k-th trial lies, in a bracket w wide.

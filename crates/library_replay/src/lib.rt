@@ -1,17 +1,15 @@
 // The front door for C, as in `library`: one step of a replay, over two vehicles that the caller keeps.
-mod held;
-
 ghost use Prim.Native.Nat.{_≤_};
 ghost use mathlib.Core.Path.{_≡_};
 ghost use lib.ListN.{length};
 ghost use Rattle.lent.specs.Given.{Given};
-ghost use Rattle.library_replay.specs.Steps.{recordWrong, heldWrong, answeredTold, stepIn};
+ghost use Rattle.library_replay.specs.Steps.{recordWrong, answeredTold, stepIn};
 use flight::Mu;
-use held::put_held;
-use held::put_marked;
-use held::put_states;
-use held::replay_from;
-use lent::word_at;
+use held_replay::held_wrong;
+use held_replay::put_held;
+use held_replay::put_marked;
+use held_replay::put_states;
+use held_replay::replay_from;
 use library_records::count_from;
 use library_records::record_from;
 use replay::Answer;
@@ -27,21 +25,6 @@ fn record_wrong(kind: u64, vehicle: u8, body: u8) -> bool
         return body > 1;
     }
     false
-}
-
-fn held_wrong(held: &[u64]) -> bool
-    ensures { λ r. ⌜ r ≡ heldWrong (now (held .entry)) ⌝ }
-{
-    if word_at(held, 1) > 1 {
-        return true;
-    }
-    if word_at(held, 2) > 1 {
-        return true;
-    }
-    if word_at(held, 4) > 1 {
-        return true;
-    }
-    word_at(held, 5) > 1
 }
 
 fn give_answer(a: Answer, p: Replay, states: &mut [f64], held: &mut [u64]) -> u32

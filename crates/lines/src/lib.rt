@@ -7,4 +7,6 @@ pub use day::day_of;
 pub use line::heading;
 pub use line::name;
 pub use line::record_line;
+pub use line::refused_at;
 pub use line::refused_line;
+pub use line::stamp;

@@ -1,9 +1,10 @@
 // The lines themselves: the heading, a record's and a refusal's.
 ghost use mathlib.Core.Path.{_≡_};
 ghost use Rattle.session.specs.Kinds.{nameOf};
-ghost use Rattle.text.specs.Text.{IfFits, InFront, Put};
+ghost use Rattle.text.specs.Text.{InFront, Put};
+ghost use Rattle.text.specs.Pieces.{Laid};
 ghost use Rattle.lines.specs.Days.{localOf};
-ghost use Rattle.lines.specs.Lines.{lineRoom, headingText, recordText, refusedText, stampText, eventText};
+ghost use Rattle.lines.specs.Lines.{lineRoom, headingText, clockPieces, stampPieces, eventPieces, recordText, refusedPieces, refusedText};
 use crate::day::day_of;
 use session::Kind;
 use session::Record;
@@ -32,21 +33,6 @@ pub fn record_line(buf: &mut [u8], r: Record, offset: i16) -> Made
     }
 }
 
-// The number is one byte: beside the twenty digits that a place can have, a line of 40 bytes holds no more than seven.
-pub fn refused_line(buf: &mut [u8], number: u8, at: u64) -> Made
-    ensures { λ r. ⌜ InFront lineRoom (refusedText number at) (now (buf .entry)) (now (buf .exit)) r ⌝ }
-{
-    if buf.len() < 40 {
-        return Made::Refused(15);
-    }
-    let a = text::bytes(buf, 0, b"refused ");
-    let b = text::number(buf, a, number as u64);
-    let c = text::bytes(buf, b, b" at ");
-    let d = text::number(buf, c, at);
-    let e = text::byte(buf, d, b'\n');
-    Made::Line(e)
-}
-
 // The name of a kind.
 pub fn name(buf: &mut [u8], at: usize, k: Kind) -> usize
     ensures { λ r. ⌜ Put (now (buf .entry)) at (nameOf k) (now (buf .exit)) r ⌝ }
@@ -58,8 +44,9 @@ pub fn name(buf: &mut [u8], at: usize, k: Kind) -> usize
     }
 }
 
-fn stamp(buf: &mut [u8], time: i64, offset: i16) -> usize
-    ensures { λ r. ⌜ IfFits (now (buf .entry)) 0 (stampText (localOf time offset)) (now (buf .exit)) r ⌝ }
+// The day and the cs by the local clock.
+fn clock(buf: &mut [u8], time: i64, offset: i16) -> usize
+    ensures { λ r. ⌜ Laid (now (buf .entry)) 0 (clockPieces (localOf time offset)) (now (buf .exit)) r ⌝ }
 {
     let d = day_of(time, offset);
     let day = d.day;
@@ -70,12 +57,40 @@ fn stamp(buf: &mut [u8], time: i64, offset: i16) -> usize
     text::byte(buf, c, b' ')
 }
 
-fn event(buf: &mut [u8], time: i64, offset: i16, vehicle: u8, k: Kind) -> usize
-    ensures { λ r. ⌜ IfFits (now (buf .entry)) 0 (eventText (localOf time offset) vehicle k) (now (buf .exit)) r ⌝ }
+// What begins the line of a record: when, which vehicle, and what.
+pub fn stamp(buf: &mut [u8], time: i64, offset: i16, vehicle: u8, k: Kind) -> usize
+    ensures { λ r. ⌜ Laid (now (buf .entry)) 0 (stampPieces (localOf time offset) vehicle k) (now (buf .exit)) r ⌝ }
 {
-    let a = stamp(buf, time, offset);
+    let a = clock(buf, time, offset);
     let b = text::number(buf, a, vehicle as u64);
     let c = text::byte(buf, b, b' ');
-    let d = name(buf, c, k);
+    name(buf, c, k)
+}
+
+fn event(buf: &mut [u8], time: i64, offset: i16, vehicle: u8, k: Kind) -> usize
+    ensures { λ r. ⌜ Laid (now (buf .entry)) 0 (eventPieces (localOf time offset) vehicle k) (now (buf .exit)) r ⌝ }
+{
+    let a = stamp(buf, time, offset, vehicle, k);
+    text::byte(buf, a, b'\n')
+}
+
+// A refusal's number and the place of it, behind the words that begin the line.
+pub fn refused_at(buf: &mut [u8], words: &[u8], number: u64, at: u64) -> usize
+    ensures { λ r. ⌜ Laid (now (buf .entry)) 0 (refusedPieces (now (words .entry)) number at) (now (buf .exit)) r ⌝ }
+{
+    let a = text::bytes(buf, 0, words);
+    let b = text::number(buf, a, number);
+    let c = text::bytes(buf, b, b" at ");
+    let d = text::number(buf, c, at);
     text::byte(buf, d, b'\n')
+}
+
+// The number is one byte: beside the twenty digits that a place can have, a line of 40 bytes holds no more than seven.
+pub fn refused_line(buf: &mut [u8], number: u8, at: u64) -> Made
+    ensures { λ r. ⌜ InFront lineRoom (refusedText number at) (now (buf .entry)) (now (buf .exit)) r ⌝ }
+{
+    if buf.len() < 40 {
+        return Made::Refused(15);
+    }
+    Made::Line(refused_at(buf, b"refused ", number as u64, at))
 }

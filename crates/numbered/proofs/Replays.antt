@@ -34,7 +34,8 @@ use Rattle.replay.specs.declared.Pair.{Pair}
 use Rattle.replay.specs.declared.Pair.the-variants as P
 use Rattle.replay.specs.Replay.{vehicleOf, burnThen, burnFrom, metOf, bothOf, pairOf, pairFrom, burnDone, markDone, stepOf}
 use Rattle.library_records.specs.Records.{countFrom, recordFrom}
-use Rattle.library_replay.specs.Steps.{answeredTold, steppedTold, replayFrom, recordWrong, heldWrong, stepTold, stepIn}
+use Rattle.held_replay.specs.Held.{replayFrom, heldWrong}
+use Rattle.library_replay.specs.Steps.{answeredTold, steppedTold, recordWrong, stepTold, stepIn}
 use Rattle.numbered.specs.Zero.{ZeroAnswers}
 use Rattle.numbered.proofs.Refusals.{refusal, in-room, either}
 

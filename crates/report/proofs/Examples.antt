@@ -11,22 +11,23 @@ use Rattle.session.specs.Layout.{numbersFrom, allFinite}
 use Rattle.session.specs.Read.{start, readAt}
 use Rattle.session.proofs.Examples.{burn}
 use Rattle.text.specs.Text.{ascii, digits}
-use Rattle.lines.specs.Lines.{headingText, refusedText}
+use Rattle.text.specs.Pieces.{concat}
+use Rattle.lines.specs.Lines.{headingText, clockPieces, stampPieces, refusedPieces, refusedText}
 use Rattle.report.specs.declared.Next.the-variants.{Heading, At}
 use Rattle.report.specs.Listing.{stepFor, stepsIn, stepsFrom, textOf, listingOf}
 use Rattle.report.proofs.Whole.{line-by-line, nothing-left}
 
 pub burn-listing : listingOf burn ≡ ascii "day cs vehicle kind\n0 64 1 burn\n"
-unfolding textOf stepsIn allFinite numbersFrom ofBits digits
+unfolding textOf stepsIn allFinite numbersFrom ofBits concat clockPieces stampPieces digits
 burn-listing = refl
 
 pub unknown-kind : listingOf (38 ∷ 0 ∷ 5 ∷ 0 ∷ []) ≡ ascii "day cs vehicle kind\nrefused 13 at 0\n"
-unfolding textOf stepsIn digits
+unfolding textOf stepsIn concat refusedPieces digits
 unknown-kind = refl
 
 -- one minute behind UTC, the burn falls on the day before
 pub night-listing : listingOf (8 ∷ 0 ∷ 4 ∷ 0 ∷ 255 ∷ 255 ∷ 0 ∷ 0 ∷ burn) ≡ ascii "day cs vehicle kind\n-1 8634064 1 burn\n"
-unfolding textOf stepsIn allFinite numbersFrom ofBits digits
+unfolding textOf stepsIn allFinite numbersFrom ofBits concat clockPieces stampPieces digits
 night-listing = refl
 
 pub no-record : listingOf [] ≡ headingText

@@ -4,15 +4,13 @@ use mathlib.Core.Bool.{Bool, cond}
 use mathlib.Core.List.{List}
 use lib.ListN.{length, getD}
 use lib.Dec.{eqb, ltb}
-use lib.IntN.{ℤ}
-use lib.Ieee.{Float}
 use Rattle.text.specs.Text.{ascii}
-use Rattle.iterator.specs.declared.Judgement.{Judgement}
 use Rattle.words.specs.Words.{wordAt}
 use Rattle.forms.specs.declared.Request.{Request}
 use Rattle.forms.specs.declared.Request.the-variants as Q
-use Rattle.forms.specs.Forms.{Form, end, number, signed, whole, judgement, word, readBy}
+use Rattle.forms.specs.Forms.{Form, end, number, word, readBy}
 use Rattle.solves.specs.Solves.{solveForm}
+use Rattle.single.specs.Single.{trialForm}
 use Rattle.looks.specs.Looks.{wheelForm, sightForm}
 use Rattle.courses.specs.Courses.{cdhForm}
 
@@ -26,18 +24,6 @@ cForm = number λ xi. end (Q.C xi)
 
 abbrev pub sForm : Form
 sForm = number λ xi. end (Q.S xi)
-
-abbrev pub trialCounted : Float → ℤ → ℤ → Judgement → Judgement → Form
-trialCounted asked lo hi below above = whole λ k. end (Q.Trial asked lo hi below above k)
-
-abbrev pub trialJudged : Float → ℤ → ℤ → Form
-trialJudged asked lo hi = judgement λ below. judgement λ above. trialCounted asked lo hi below above
-
-abbrev pub trialBetween : Float → Form
-trialBetween asked = signed λ lo. signed λ hi. trialJudged asked lo hi
-
-abbrev pub trialForm : Form
-trialForm = number λ asked. trialBetween asked
 
 abbrev pub routines : Form
 routines =

@@ -3,14 +3,8 @@ ghost use mathlib.Core.Path.{_≡_};
 ghost use Rattle.words.specs.Words.{wordAt};
 ghost use Rattle.forms.specs.Forms.{readBy};
 ghost use Rattle.solves.specs.Solves.{solveForm};
-ghost use Rattle.requests.specs.Requests.{rootForm, cForm, sForm, trialForm, trialBetween, trialJudged, trialCounted};
-ghost use Rattle.requests.specs.Requests.{routines, isComment, requestOf};
-use forms::Ends;
+ghost use Rattle.requests.specs.Requests.{rootForm, cForm, sForm, routines, isComment, requestOf};
 use forms::Request;
-use forms::Sides;
-use iterator::Judgement;
-use numerals::Number;
-use numerals::Whole;
 use solves::Given;
 
 fn root(line: &[u8]) -> Request
@@ -44,62 +38,6 @@ fn s(line: &[u8]) -> Request
         return Request::Unread(w);
     }
     Request::S(x[0])
-}
-
-// The trial's line, part by part.
-fn trial(line: &[u8]) -> Request
-    ensures { λ r. ⌜ r ≡ readBy trialForm 1 (now (line .entry)) ⌝ }
-{
-    match numerals::read_number(words::word(line, 1)) {
-        Number::Read(asked) => trial_between(line, asked),
-        Number::Unread => Request::Unread(2),
-    }
-}
-
-fn trial_between(line: &[u8], asked: f64) -> Request
-    ensures { λ r. ⌜ r ≡ readBy (trialBetween asked) 2 (now (line .entry)) ⌝ }
-{
-    match forms::ends_at(line, 2) {
-        Ends::Read(lo, hi) => trial_judged(line, asked, lo, hi),
-        Ends::Unread(w) => Request::Unread(w),
-    }
-}
-
-fn trial_judged(line: &[u8], asked: f64, lo: i64, hi: i64) -> Request
-    ensures { λ r. ⌜ r ≡ readBy (trialJudged asked lo hi) 4 (now (line .entry)) ⌝ }
-{
-    match forms::sides_at(line, 4) {
-        Sides::Read(below, above) => trial_counted(line, asked, lo, hi, below, above),
-        Sides::Unread(w) => Request::Unread(w),
-    }
-}
-
-fn trial_counted(
-    line: &[u8],
-    asked: f64,
-    lo: i64,
-    hi: i64,
-    below: Judgement,
-    above: Judgement,
-) -> Request
-    ensures { λ r. ⌜ r ≡ readBy (trialCounted asked lo hi below above) 6 (now (line .entry)) ⌝ }
-{
-    match numerals::read_whole(words::word(line, 6)) {
-        Whole::Read(k) => {
-            if words::is_end(line, 7) {
-                return Request::Trial {
-                    asked,
-                    lo,
-                    hi,
-                    below,
-                    above,
-                    k,
-                };
-            }
-            Request::Unread(8)
-        }
-        Whole::Unread => Request::Unread(7),
-    }
 }
 
 // A solve, by its name.
@@ -136,7 +74,7 @@ fn routine(name: &[u8], line: &[u8]) -> Request
         return s(line);
     }
     if words::is_word(name, b"trial") {
-        return trial(line);
+        return single::trial(line);
     }
     if words::is_word(name, b"wheel") {
         return looks::wheel(line);

@@ -20,7 +20,8 @@ use Rattle.session.specs.declared.Reading.the-variants as A
 use Rattle.session.specs.Layout.{kindIn, vehicleIn, timeIn, numbersIn}
 use Rattle.lines.specs.Days.{localOf, dayOf, csOf}
 use Rattle.lines.proofs.Sizes.{name-short}
-use Rattle.script.specs.Script.{scriptRoom, stampPieces, whoPieces, headPieces, bodyPieces, frontPieces, backPieces, middle, recordPieces, offsetPieces, refusedPieces, piecesOf}
+use Rattle.lines.specs.Lines.{refusedPieces}
+use Rattle.script.specs.Script.{scriptRoom, stampPieces, whoPieces, headPieces, bodyPieces, frontPieces, backPieces, middle, recordPieces, offsetPieces, piecesOf}
 
 stamp-most : (t : ℤ) → size (stampPieces t) ≤ 53
 unfolding concat stampPieces

@@ -21,6 +21,7 @@ use Rattle.session.specs.Kinds.{nameOf}
 use Rattle.session.specs.Layout.{kindIn, vehicleIn, timeIn, numbersIn}
 use Rattle.session.specs.Read.{readAt}
 use Rattle.lines.specs.Days.{localOf, dayOf, csOf}
+use Rattle.lines.specs.Lines.{refusedPieces}
 use Rattle.script.specs.declared.Shown.{Shown}
 use Rattle.script.specs.declared.Shown.the-variants.{Lines, Last, Refused}
 
@@ -66,16 +67,12 @@ recordPieces o r =
 unfoldable pub offsetPieces : ℤ → List (List ℕ)
 offsetPieces z = ascii "# offset " ∷ signedText z ∷ ascii " minutes\noffset " ∷ signedText z ∷ ascii "\n" ∷ []
 
--- `# refused N at PLACE`
-unfoldable pub refusedPieces : ℕ → ℕ → List (List ℕ)
-refusedPieces n at = ascii "# refused " ∷ decimal n ∷ ascii " at " ∷ decimal at ∷ ascii "\n" ∷ []
-
 -- what is said of what was read
 abbrev pub piecesOf : Reading → List (List ℕ)
 piecesOf (A.Record r p) = recordPieces (p .offset) r
 piecesOf (A.Offset p) = offsetPieces (p .offset)
 piecesOf A.End = []
-piecesOf (A.Refused n p) = refusedPieces n (p .at)
+piecesOf (A.Refused n p) = refusedPieces (ascii "# refused ") n (p .at)
 
 -- and where to go on: behind a record and behind the offset's, nowhere else
 abbrev pub shownAs : Reading → ℕ → Shown

@@ -3,7 +3,6 @@ mod records;
 
 use records::offset_lines;
 use records::record_lines;
-use records::refused_line;
 use session::Place;
 use session::Reading;
 ghost use Rattle.text.specs.Pieces.{Laid};
@@ -34,7 +33,7 @@ fn lines_of(buf: &mut [u8], r: Reading) -> usize
         Reading::End => 0,
         Reading::Refused(n, place) => {
             let at = place.at;
-            refused_line(buf, n as u64, at as u64)
+            lines::refused_at(buf, b"# refused ", n as u64, at as u64)
         }
     }
 }

@@ -1,7 +1,7 @@
 // The lines themselves, each put at the front of a lent buffer, whose room the caller tests: 512 bytes hold them all.
 ghost use Rattle.text.specs.Pieces.{Laid};
 ghost use Rattle.lines.specs.Days.{localOf};
-ghost use Rattle.script.specs.Script.{stampPieces, whoPieces, headPieces, frontPieces, backPieces, bodyPieces, recordPieces, offsetPieces, refusedPieces};
+ghost use Rattle.script.specs.Script.{stampPieces, whoPieces, headPieces, frontPieces, backPieces, bodyPieces, recordPieces, offsetPieces};
 use columns::Style;
 use lines::day_of;
 use session::Kind;
@@ -101,15 +101,5 @@ pub fn offset_lines(buf: &mut [u8], minutes: i16) -> usize
     let b = text::signed(buf, a, z);
     let c = text::bytes(buf, b, b" minutes\noffset ");
     let d = text::signed(buf, c, z);
-    text::byte(buf, d, b'\n')
-}
-
-pub fn refused_line(buf: &mut [u8], number: u64, at: u64) -> usize
-    ensures { λ r. ⌜ Laid (now (buf .entry)) 0 (refusedPieces number at) (now (buf .exit)) r ⌝ }
-{
-    let a = text::bytes(buf, 0, b"# refused ");
-    let b = text::number(buf, a, number);
-    let c = text::bytes(buf, b, b" at ");
-    let d = text::number(buf, c, at);
     text::byte(buf, d, b'\n')
 }

@@ -23,8 +23,8 @@ use Rattle.lambert.specs.declared.Transfer.{Transfer}
 use Rattle.lambert.specs.Lambert.{transferOf, velocityAt, resultRow}
 use Rattle.solve.specs.Ends.{motionFor, turnsFor, keplerEnded, lambertEnded}
 use Rattle.solve.specs.Answers.{standardFractions, gradeOf, outcomeBy, outcomeAt, concludedOf, advancedAt, advancedAs, advancedEnd, advanceTo, transferredAt, transferredAs, transferredEnd, transferVelocityTo}
-use Rattle.solve.specs.declared.Ended.{Ended}
-use Rattle.solve.specs.declared.Ended.the-variants as E
+use Rattle.trials.specs.declared.Ended.{Ended}
+use Rattle.trials.specs.declared.Ended.the-variants as E
 use Rattle.solve.specs.declared.Solution.{Solution}
 use Rattle.solve.specs.declared.Outcome.{Outcome}
 use Rattle.solve.specs.declared.Outcome.the-variants as O

@@ -22,7 +22,7 @@ use Rattle.lambert.specs.Lambert.{velocityAt, resultRow}
 use Rattle.solve.specs.Answers.{solutionOf, outcomeBy, outcomeAt, concludedOf, advancedAt, advancedAs, advancedEnd, transferredAt, transferredAs, transferredEnd, advancedNumber, transferredNumber}
 use Rattle.solve.specs.declared.Solution.{Solution}
 use Rattle.solve.specs.declared.Outcome.the-variants as O
-use Rattle.solve.specs.declared.Ended.the-variants as E
+use Rattle.trials.specs.declared.Ended.the-variants as E
 
 abbrev pub arrivalNumber : Arrival → ℕ
 arrivalNumber (InRange s) = 0

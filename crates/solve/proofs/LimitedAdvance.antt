@@ -24,16 +24,18 @@ use Rattle.kepler.specs.declared.Arrival.the-variants.{InRange, OutOfRange}
 use Rattle.kepler.specs.Kepler.{turnedOf, inputRow, rangeRows, fallRow, keplerTests, arrivalOf}
 use Rattle.problem.specs.Problems.{startOf, stoppedOf}
 use Rattle.problem.specs.declared.Problem.the-variants.{Kepler}
-use Rattle.solve.specs.Begun.{timesInput, keplerAhead, begunOf}
-use Rattle.solve.specs.Ends.{motionFor, turnsFor, endedFrom}
+use Rattle.trials.specs.Ended.{begunOf, endedFrom}
+use Rattle.trials.specs.Carried.{timesInput}
+use Rattle.solve.specs.Ahead.{keplerAhead}
+use Rattle.solve.specs.Ends.{motionFor, turnsFor}
 use Rattle.solve.specs.Answers.{outcomeTo, advancedAt, advancedAs, advancedBy, advanceOf, advancedEnd, advanceTo, advancedNumber}
 use Rattle.solve.specs.declared.Solution.{Solution}
 use Rattle.solve.specs.declared.Outcome.{Outcome}
 use Rattle.solve.specs.declared.Outcome.the-variants as O
 use Rattle.iterator.specs.declared.Beginning.{Beginning}
 use Rattle.iterator.specs.declared.Beginning.the-variants.{Start, Stopped}
-use Rattle.solve.specs.declared.Begun.{Begun}
-use Rattle.solve.specs.declared.Begun.the-variants as B
+use Rattle.trials.specs.declared.Begun.{Begun}
+use Rattle.trials.specs.declared.Begun.the-variants as B
 use Rattle.solve.specs.declared.Advanced.{Advanced}
 use Rattle.solve.specs.declared.Advanced.the-variants as Ad
 use Rattle.solve.proofs.Parts.{failed-then, kepler-whole, kepler-among}

@@ -20,8 +20,9 @@ use Rattle.lambert.specs.declared.Transfer.{Transfer}
 use Rattle.lambert.specs.Lambert.{transferOf, lambertTests, velocityAt, resultRow}
 use Rattle.problem.specs.Problems.{startOf, stoppedOf}
 use Rattle.problem.specs.declared.Problem.the-variants.{Lambert}
-use Rattle.solve.specs.Begun.{timesInput, lambertAhead, begunOf}
-use Rattle.solve.specs.Ends.{endedFrom}
+use Rattle.trials.specs.Ended.{begunOf, endedFrom}
+use Rattle.trials.specs.Carried.{timesInput}
+use Rattle.solve.specs.Ahead.{lambertAhead}
 use Rattle.solve.specs.Answers.{outcomeTo}
 use Rattle.solve.specs.Answers.{transferredAt, transferredAs, transferredBy, transferVelocityOf, transferredEnd, transferVelocityTo, transferredNumber}
 use Rattle.solve.specs.declared.Solution.{Solution}
@@ -29,8 +30,8 @@ use Rattle.solve.specs.declared.Outcome.{Outcome}
 use Rattle.solve.specs.declared.Outcome.the-variants as O
 use Rattle.iterator.specs.declared.Beginning.{Beginning}
 use Rattle.iterator.specs.declared.Beginning.the-variants.{Start, Stopped}
-use Rattle.solve.specs.declared.Begun.{Begun}
-use Rattle.solve.specs.declared.Begun.the-variants as B
+use Rattle.trials.specs.declared.Begun.{Begun}
+use Rattle.trials.specs.declared.Begun.the-variants as B
 use Rattle.solve.specs.declared.Transferred.{Transferred}
 use Rattle.solve.specs.declared.Transferred.the-variants as Tr
 use Rattle.solve.proofs.Parts.{lambert-start, lambert-whole, lambert-among}

@@ -35,16 +35,18 @@ use Rattle.problem.specs.declared.Problem.{Problem}
 use Rattle.solve.specs.declared.Solution.{Solution}
 use Rattle.solve.specs.declared.Outcome.{Outcome}
 use Rattle.solve.specs.declared.Outcome.the-variants as O
-use Rattle.solve.specs.declared.Begun.{Begun}
-use Rattle.solve.specs.declared.Begun.the-variants as B
-use Rattle.solve.specs.declared.Ended.{Ended}
-use Rattle.solve.specs.declared.Ended.the-variants as E
+use Rattle.trials.specs.declared.Begun.{Begun}
+use Rattle.trials.specs.declared.Begun.the-variants as B
+use Rattle.trials.specs.declared.Ended.{Ended}
+use Rattle.trials.specs.declared.Ended.the-variants as E
 use Rattle.solve.specs.declared.Advanced.{Advanced}
 use Rattle.solve.specs.declared.Advanced.the-variants as Ad
 use Rattle.solve.specs.declared.Transferred.{Transferred}
 use Rattle.solve.specs.declared.Transferred.the-variants as Tr
-use Rattle.solve.specs.Begun.{timeInput, timesInput, keplerAhead, lambertAhead}
-use Rattle.solve.specs.Ends.{motionFor, endedFrom, keplerEnded, lambertEnded}
+use Rattle.trials.specs.Carried.{timeInput, timesInput}
+use Rattle.solve.specs.Ahead.{keplerAhead, lambertAhead}
+use Rattle.trials.specs.Ended.{endedFrom}
+use Rattle.solve.specs.Ends.{motionFor, keplerEnded, lambertEnded}
 use Rattle.solve.specs.Answers.{advancedAt, advancedAs, advancedBy, advanceOf, advancedEnd, advanceTo, transferredAt, transferredAs, transferredBy, transferVelocityOf, transferredEnd, transferVelocityTo}
 use Rattle.solve.proofs.Numbers.{Nine, nine}
 

@@ -17,7 +17,8 @@ use Rattle.lambert.specs.declared.Transfer.{Transfer}
 use Rattle.lambert.specs.Lambert as L
 use Rattle.iterator.specs.declared.Beginning.{Beginning}
 use Rattle.iterator.specs.declared.Beginning.the-variants.{Start}
-use Rattle.solve.specs.Begun.{timesInput, keplerAhead, lambertAhead}
+use Rattle.trials.specs.Carried.{timesInput}
+use Rattle.solve.specs.Ahead.{keplerAhead, lambertAhead}
 
 -- a test that fails is the first that does, whatever stands behind it
 pub failed-then : (xs ys : List Entry) (e : Entry) → firstFailing xs ≡ Failed e → firstFailing (xs ++ ys) ≡ Failed e

@@ -4,8 +4,7 @@ use lib.Ieee.{Float}
 use Rattle.real.specs.F64.{sizeOf}
 use Rattle.vector.specs.declared.Vector.{Vector}
 use Rattle.vector.specs.declared.State.{State}
-use Rattle.table.specs.declared.Test.{Test}
-use Rattle.table.specs.declared.Test.the-variants.{Passed, Failed}
+use Rattle.table.specs.declared.Test.the-variants.{Passed}
 use Rattle.table.specs.Tests.{firstFailing}
 use Rattle.iterator.specs.declared.Beginning.{Beginning}
 use Rattle.kepler.specs.declared.Motion.{Motion}
@@ -13,14 +12,10 @@ use Rattle.kepler.specs.declared.Turns.{Turns}
 use Rattle.kepler.specs.Kepler.{turnedOf, motionOf, fallRow, turnsOf}
 use Rattle.lambert.specs.declared.Way.{Way}
 use Rattle.lambert.specs.Lambert.{transferOf}
-use Rattle.problem.specs.Problems.{stoppedOf}
-use Rattle.problem.specs.declared.Problem.{Problem}
 use Rattle.problem.specs.declared.Problem.the-variants.{Kepler, Lambert}
-use Rattle.solve.specs.Begun.{keplerAhead, lambertAhead, begunOf}
-use Rattle.solve.specs.declared.Begun.{Begun}
-use Rattle.solve.specs.declared.Begun.the-variants as B
-use Rattle.solve.specs.declared.Ended.{Ended}
-use Rattle.solve.specs.declared.Ended.the-variants as E
+use Rattle.trials.specs.declared.Ended.{Ended}
+use Rattle.trials.specs.Ended.{begunOf, endedFrom}
+use Rattle.solve.specs.Ahead.{keplerAhead, lambertAhead}
 
 -- a negative time is solved as its size with the velocity negated
 abbrev pub motionFor : Float → State → Float → Motion
@@ -28,13 +23,6 @@ motionFor mu s t = motionOf mu (turnedOf t s)
 
 abbrev pub turnsFor : Float → State → Float → Turns
 turnsFor mu s t = turnsOf (motionFor mu s t) (sizeOf t)
-
--- the tests ahead, row 6 of a continuation, the tests behind it (Kepler's 19), then the trials from where they begin
-unfoldable pub endedFrom : Test → Begun → Test → Problem → Float → ℕ → Ended
-endedFrom (Failed f) b fall problem asked limit = E.Refused f
-endedFrom Passed (B.Wrong a) fall problem asked limit = E.Wrong a
-endedFrom Passed (B.At s) (Failed f) problem asked limit = E.Refused f
-endedFrom Passed (B.At s) Passed problem asked limit = E.At (stoppedOf problem asked limit s)
 
 -- the trials are for the rest of the time
 abbrev pub keplerEnded : Float → State → Float → ℕ → Beginning → Ended

@@ -120,7 +120,7 @@ pub fn arc_of(mu: f64, d: Sweep) -> Arc
 }
 
 // Over is too long, under too short.
-fn told(s: State, r: Reached) -> TransferTime
+fn transfer_time_by(s: State, r: Reached) -> TransferTime
     ensures { λ x. ⌜ x ≡ transferTimeBy s r ⌝ }
 {
     match r {
@@ -136,7 +136,7 @@ pub fn time_theta(mu: f64, s: State, sin: f64, cos: f64) -> TransferTime
 {
     let d = sweep_of(mu, s, sin, cos);
     match tests(mu, s, sin, cos, d) {
-        Test::Passed => told(s, reach::reach_of(arc_of(mu, d))),
+        Test::Passed => transfer_time_by(s, reach::reach_of(arc_of(mu, d))),
         Test::Failed(f) => TransferTime::Refused(f.number),
     }
 }

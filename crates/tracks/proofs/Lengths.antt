@@ -20,19 +20,20 @@ use Rattle.session.specs.declared.record.Kind.the-variants as K
 use Rattle.session.specs.declared.record.Record.{Record}
 use Rattle.session.specs.Layout.{kindIn, vehicleIn, timeIn}
 use Rattle.lines.specs.Days.{localOf, dayOf, csOf}
+use Rattle.lines.specs.Lines.{clockPieces, stampPieces, refusedPieces}
 use Rattle.lines.proofs.Sizes.{name-short}
 use Rattle.flight.specs.declared.Flight.{Flight}
 use Rattle.replay.specs.declared.Answer.{Answer}
 use Rattle.replay.specs.declared.Answer.the-variants as A
 use Rattle.replay.specs.declared.Vehicle.{Vehicle}
 use Rattle.replay.specs.declared.Vehicle.the-variants.{Unset, Set}
-use Rattle.tracks.specs.Tracks.{headingPieces, refusedPieces, clockPieces, stampPieces, answerPieces, eventPieces, recordPieces, aboutText, flightPieces, wherePieces, vehiclePieces}
+use Rattle.tracks.specs.Tracks.{headingPieces, answerPieces, eventPieces, recordPieces, aboutText, flightPieces, wherePieces, vehiclePieces}
 
 pub heading-fits : size headingPieces ≤ 512
 unfolding concat headingPieces
 heading-fits = lit≤ tt
 
-pub refused-fits : (n at : ℕ) → size (refusedPieces n at) ≤ 512
+pub refused-fits : (n at : ℕ) → size (refusedPieces (ascii "refused ") n at) ≤ 512
 unfolding concat refusedPieces
 refused-fits n at = simp length-append (omega (arith, at-most 20 n, at-most 20 at))
 

@@ -8,9 +8,9 @@ use Rattle.text.specs.Text.{ascii, decimal, signedText}
 use Rattle.columns.specs.Rows.{labelledPieces, endPieces}
 use Rattle.session.specs.declared.record.Kind.{Kind}
 use Rattle.session.specs.declared.record.Record.{Record}
-use Rattle.session.specs.Kinds.{nameOf}
 use Rattle.session.specs.Layout.{kindIn, vehicleIn, timeIn}
-use Rattle.lines.specs.Days.{localOf, dayOf, csOf}
+use Rattle.lines.specs.Days.{localOf}
+use Rattle.lines.specs.Lines.{stampPieces}
 use Rattle.flight.specs.declared.Flight.{Flight}
 use Rattle.replay.specs.declared.Answer.{Answer}
 use Rattle.replay.specs.declared.Answer.the-variants as A
@@ -19,18 +19,6 @@ use Rattle.replay.specs.declared.Vehicle.the-variants.{Unset, Set}
 
 unfoldable pub headingPieces : List (List ℕ)
 headingPieces = ascii "day cs vehicle kind result\n" ∷ []
-
--- `refused NUMBER at PLACE`
-unfoldable pub refusedPieces : ℕ → ℕ → List (List ℕ)
-refusedPieces n at = ascii "refused " ∷ decimal n ∷ ascii " at " ∷ decimal at ∷ ascii "\n" ∷ []
-
--- `DAY CS `
-unfoldable pub clockPieces : ℤ → List (List ℕ)
-clockPieces t = signedText (dayOf t) ∷ ascii " " ∷ decimal (csOf t) ∷ ascii " " ∷ []
-
--- `DAY CS VEHICLE KIND`
-unfoldable pub stampPieces : ℤ → ℕ → Kind → List (List ℕ)
-stampPieces t v k = clockPieces t ++ (decimal v ∷ ascii " " ∷ nameOf k ∷ [])
 
 -- ` set`, ` done`, ` off D bits X`, ` refused N`
 unfoldable pub answerPieces : Answer → List (List ℕ)

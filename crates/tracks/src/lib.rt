@@ -3,7 +3,7 @@
 ghost use Rattle.text.specs.Text.{Put};
 ghost use Rattle.text.specs.Pieces.{Laid};
 ghost use Rattle.lines.specs.Days.{localOf};
-ghost use Rattle.tracks.specs.Tracks.{headingPieces, refusedPieces, clockPieces, stampPieces, answerPieces, eventPieces, recordPieces, aboutText, flightPieces, vehiclePieces};
+ghost use Rattle.tracks.specs.Tracks.{headingPieces, answerPieces, eventPieces, recordPieces, aboutText, flightPieces, vehiclePieces};
 use flight::Flight;
 use replay::Answer;
 use replay::Vehicle;
@@ -14,38 +14,6 @@ pub fn heading(buf: &mut [u8]) -> usize
     ensures { λ r. ⌜ Laid (now (buf .entry)) 0 headingPieces (now (buf .exit)) r ⌝ }
 {
     text::bytes(buf, 0, b"day cs vehicle kind result\n")
-}
-
-// Where the reader refuses.
-pub fn refused(buf: &mut [u8], number: u32, at: u64) -> usize
-    ensures { λ r. ⌜ Laid (now (buf .entry)) 0 (refusedPieces number at) (now (buf .exit)) r ⌝ }
-{
-    let a = text::bytes(buf, 0, b"refused ");
-    let b = text::number(buf, a, number as u64);
-    let c = text::bytes(buf, b, b" at ");
-    let d = text::number(buf, c, at);
-    text::byte(buf, d, b'\n')
-}
-
-fn clock(buf: &mut [u8], time: i64, offset: i16) -> usize
-    ensures { λ r. ⌜ Laid (now (buf .entry)) 0 (clockPieces (localOf time offset)) (now (buf .exit)) r ⌝ }
-{
-    let d = lines::day_of(time, offset);
-    let day = d.day;
-    let cs = d.cs;
-    let a = text::signed(buf, 0, day);
-    let b = text::byte(buf, a, b' ');
-    let c = text::number(buf, b, cs);
-    text::byte(buf, c, b' ')
-}
-
-fn stamp(buf: &mut [u8], time: i64, offset: i16, vehicle: u8, k: Kind) -> usize
-    ensures { λ r. ⌜ Laid (now (buf .entry)) 0 (stampPieces (localOf time offset) vehicle k) (now (buf .exit)) r ⌝ }
-{
-    let a = clock(buf, time, offset);
-    let b = text::number(buf, a, vehicle as u64);
-    let c = text::byte(buf, b, b' ');
-    lines::name(buf, c, k)
 }
 
 fn answer(buf: &mut [u8], at: usize, x: Answer) -> usize
@@ -70,7 +38,7 @@ fn answer(buf: &mut [u8], at: usize, x: Answer) -> usize
 fn event(buf: &mut [u8], time: i64, offset: i16, vehicle: u8, k: Kind, x: Answer) -> usize
     ensures { λ r. ⌜ Laid (now (buf .entry)) 0 (eventPieces (localOf time offset) vehicle k x) (now (buf .exit)) r ⌝ }
 {
-    let a = stamp(buf, time, offset, vehicle, k);
+    let a = lines::stamp(buf, time, offset, vehicle, k);
     answer(buf, a, x)
 }
 

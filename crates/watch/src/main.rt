@@ -1,7 +1,6 @@
 // Lists a session as it comes on standard input, from a serial line or a pipe: each line of the listing is written as soon
 // as its record is whole, and a refusal as soon as it is certain, though the input stays open. The reading is in `stream`,
 // the lines are in `follow`.
-use libc::STDIN_FILENO;
 use session::Place;
 use stream::Standing;
 use stream::Step;
@@ -59,18 +58,16 @@ fn feed(state: Standing, room: &mut [u8], input: &[u8]) -> Fed
 // One read, and the lines that it ends.
 fn take_some(state: Standing, room: &mut [u8]) -> Fed {
     let mut input = [0u8; 65536];
-    let got = libc::read(STDIN_FILENO, &mut input);
-    if got < 0 {
-        os::fail(b"standard input");
+    let got = console::read_some(&mut input);
+    if got.failed {
         return Fed::Failed;
     }
-    if got == 0 {
+    if got.length == 0 {
         let last = stream::finish(state);
         write_step(Step::Stopped(last));
         return Fed::Read(last);
     }
-    let n = io::count(got, &input);
-    feed(state, room, &input[..n])
+    feed(state, room, &input[..got.length])
 }
 
 fn is_open(state: Standing) -> bool {

@@ -30,14 +30,15 @@ use Rattle.apsides.proofs.Laws.{answered-number}
 use Rattle.problem.specs.declared.Problem.the-variants.{Kepler, Lambert}
 use Rattle.solve.specs.Ends.{motionFor, keplerEnded, lambertEnded}
 use Rattle.solve.specs.Answers.{advancedEnd, advanceTo, transferredEnd, transferVelocityTo, advancedNumber, transferredNumber}
-use Rattle.solve.specs.declared.Ended.{Ended}
-use Rattle.solve.specs.declared.Ended.the-variants as E
+use Rattle.trials.specs.declared.Ended.{Ended}
+use Rattle.trials.specs.declared.Ended.the-variants as E
 use Rattle.solve.proofs.Halts.{arrivalNumber, endNumber, advance-halts, transfer-halts}
 use Rattle.reason.specs.declared.Neighbours.{Neighbours}
 use Rattle.reason.specs.declared.Reason.the-variants as R
 use Rattle.reason.specs.Reasons.{reasonNumber}
 use Rattle.why.specs.declared.Told.the-variants as T
-use Rattle.why.specs.Why.{neighboursOf, toldBy, toldOf, arrivalReason, toldAdvance, velocityReason, toldTransfer, advanceReason, whyAdvance, transferReason, whyTransfer, reachedReason, timeReason, whyTime, testReason, whyApsides}
+use Rattle.why_direct.specs.Why.{reachedReason, timeReason, whyTime, testReason, whyApsides}
+use Rattle.why.specs.Why.{neighboursOf, toldBy, toldOf, arrivalReason, toldAdvance, velocityReason, toldTransfer, advanceReason, whyAdvance, transferReason, whyTransfer}
 use Rattle.why.proofs.Stops.{Stops, reach-stops}
 
 arrival : (r : Arrival) (n : Neighbours) → reasonNumber (arrivalReason r n) ≡ arrivalNumber r

@@ -16,21 +16,15 @@ use Rattle.kepler.specs.declared.Motion.{Motion}
 use Rattle.kepler.specs.declared.Arrival.{Arrival}
 use Rattle.kepler.specs.declared.Arrival.the-variants.{InRange, OutOfRange}
 use Rattle.kepler.specs.Kepler.{turnedOf, arrivalOf}
-use Rattle.reach.specs.declared.Reached.{Reached}
-use Rattle.reach.specs.declared.Reached.the-variants as H
-use Rattle.reach.specs.Reach.{reachOf}
 use Rattle.lambert.specs.declared.Way.{Way}
 use Rattle.lambert.specs.declared.Transfer.{Transfer}
 use Rattle.lambert.specs.Lambert.{transferOf, velocityAt, resultRow}
-use Rattle.theta.specs.declared.Sweep.{Sweep}
-use Rattle.theta.specs.Theta.{sweepOf, thetaTests, arcOf}
-use Rattle.apsides.specs.Apsides.{shapeOf, apsidesTests}
 use Rattle.problem.specs.Stops.{stopOf}
 use Rattle.problem.specs.declared.Problem.{Problem}
 use Rattle.problem.specs.declared.Problem.the-variants.{Kepler, Lambert}
 use Rattle.solve.specs.Ends.{motionFor, keplerEnded, lambertEnded}
-use Rattle.solve.specs.declared.Ended.{Ended}
-use Rattle.solve.specs.declared.Ended.the-variants as E
+use Rattle.trials.specs.declared.Ended.{Ended}
+use Rattle.trials.specs.declared.Ended.the-variants as E
 use Rattle.reason.specs.declared.Neighbours.{Neighbours}
 use Rattle.reason.specs.declared.Reason.{Reason}
 use Rattle.reason.specs.declared.Reason.the-variants as R
@@ -81,7 +75,7 @@ unfoldable pub toldTransfer : Transfer → Told → Reason
 toldTransfer d (T.Timed n) = velocityReason (firstFailing (resultRow (velocityAt d (n .lo)))) n
 toldTransfer d (T.Not r) = r
 
--- ---- the four solves
+-- ---- the two solves
 
 unfoldable pub advanceReason : Ended → Motion → State → Reason
 advanceReason (E.Refused e) m from = R.Test e
@@ -98,26 +92,3 @@ transferReason (E.At b) d = toldTransfer d (toldOf (Lambert d) b)
 
 abbrev pub whyTransfer : Float → Vector → Vector → Way → Float → ℕ → Beginning → Reason
 whyTransfer mu first second way t limit g = transferReason (lambertEnded mu first second way t limit g) (transferOf mu first second way)
-
--- for a transfer time the range test alone
-unfoldable pub reachedReason : Reached → Reason
-reachedReason (H.Time t) = R.Solved
-reachedReason (H.Under e) = R.Range e
-reachedReason (H.Over e) = R.Range e
-
-unfoldable pub timeReason : Test → Reached → Reason
-timeReason (Failed e) r = R.Test e
-timeReason Passed r = reachedReason r
-
-abbrev pub whyTimeFrom : Float → State → Float → Float → Sweep → Reason
-whyTimeFrom mu s sin cos d = timeReason (firstFailing (thetaTests mu s sin cos d)) (reachOf (arcOf mu d))
-
-abbrev pub whyTime : Float → State → Float → Float → Reason
-whyTime mu s sin cos = whyTimeFrom mu s sin cos (sweepOf mu s sin cos)
-
-unfoldable pub testReason : Test → Reason
-testReason (Failed e) = R.Test e
-testReason Passed = R.Solved
-
-abbrev pub whyApsides : Float → State → Reason
-whyApsides mu s = testReason (firstFailing (apsidesTests mu s (shapeOf mu s)))

@@ -1,4 +1,4 @@
-// Why a solve refuses, or that it does not: the solve's own tests and trials, told. No test and no formula stands here.
+// Why a solve by trials refuses, or that it does not: the solve's own tests and trials, told. No test and no formula stands here.
 use iterator::Beginning;
 use iterator::Bracket;
 use iterator::Judgement;
@@ -7,17 +7,16 @@ use kepler::Motion;
 use lambert::Transfer;
 use lambert::Way;
 use problem::Problem;
-use reach::Reached;
 use reason::Neighbours;
 use reason::Reason;
-use solve::Ended;
 use table::Test;
+use trials::Ended;
 use vector::State;
 use vector::Vector;
 ghost use mathlib.Core.Path.{_≡_};
 ghost use Rattle.iterator.specs.Single.{moreLeft};
 ghost use Rattle.iterator.specs.Run.{more};
-ghost use Rattle.why.specs.Why.{shortBy, toldOf, toldAdvance, toldTransfer, whyAdvance, whyTransfer, whyTime, whyApsides};
+ghost use Rattle.why.specs.Why.{shortBy, toldOf, toldAdvance, toldTransfer, whyAdvance, whyTransfer};
 
 // The neighbours with their times, or why there are no two.
 enum Told {
@@ -121,30 +120,5 @@ pub fn transfer_velocity(
             let d = lambert::transfer_of(mu, first, second, way);
             told_transfer(d, tell(Problem::Lambert(d), b))
         }
-    }
-}
-
-// Of a transfer time.
-pub fn time_theta(mu: f64, s: State, sin: f64, cos: f64) -> Reason
-    ensures { λ r. ⌜ r ≡ whyTime mu s sin cos ⌝ }
-{
-    let d = theta::sweep_of(mu, s, sin, cos);
-    match theta::tests(mu, s, sin, cos, d) {
-        Test::Failed(e) => Reason::Test(e),
-        Test::Passed => match reach::reach_of(theta::arc_of(mu, d)) {
-            Reached::Time(_) => Reason::Solved,
-            Reached::Under(e) => Reason::Range(e),
-            Reached::Over(e) => Reason::Range(e),
-        },
-    }
-}
-
-// Of the apsides.
-pub fn periapo(mu: f64, s: State) -> Reason
-    ensures { λ r. ⌜ r ≡ whyApsides mu s ⌝ }
-{
-    match apsides::tests(mu, s, apsides::shape_of(mu, s)) {
-        Test::Failed(e) => Reason::Test(e),
-        Test::Passed => Reason::Solved,
     }
 }

@@ -2,7 +2,6 @@
 // a line cannot be read or is refused. Standard error then names the line.
 use book::Progress;
 use libc::STDERR_FILENO;
-use libc::STDIN_FILENO;
 use split::Found;
 use text::Made;
 ghost use Prim.Native.Nat.{_≤_};
@@ -91,17 +90,15 @@ fn take_some(line: &mut [u8], kept: usize, session: &mut [u8], at: usize, count:
     ensures { λ r. ⌜ Holds r (length (now (line .exit))) (length (now (session .exit))) ⌝ }
 {
     let mut input = [0u8; 65536];
-    let got = libc::read(STDIN_FILENO, &mut input);
-    if got < 0 {
-        os::fail(b"standard input");
+    let got = console::read_some(&mut input);
+    if got.failed {
         return Taken::Done;
     }
-    if got == 0 {
+    if got.length == 0 {
         finish(session, at, count, &line[..kept]);
         return Taken::Done;
     }
-    let n = io::count(got, &input);
-    match feed(&input[..n], line, kept, session, at, count) {
+    match feed(&input[..got.length], line, kept, session, at, count) {
         Fed::Kept(k, a, m) => Taken::More(k, a, m),
         Fed::Stopped(t) => {
             complain(t);

@@ -4,7 +4,9 @@ use denote.Ref.{now}
 use borrow.Author.Needs.{sfits-of}
 use mir.Syntax.{w16}
 use mir.Facts.{toZ-ofZ}
-use Rattle.tracks.specs.Tracks.{refusedPieces, recordPieces}
+use Rattle.text.specs.Text.{ascii}
+use Rattle.lines.specs.Lines.{refusedPieces}
+use Rattle.tracks.specs.Tracks.{recordPieces}
 use Rattle.tracks.proofs.Lengths.{refused-fits, record-fits}
 use Rattle.account.specs.declared.Next.the-variants.{At, First}
 use Rattle.account.specs.Account.{stepFor}
@@ -34,8 +36,14 @@ enum-told c = search needs
 enum-known-number : tie.Need-enum-known-number
 enum-known-number c = search needs
 
-refused-requires : tie.Need-refused-requires
-refused-requires c κs = search needs
+slice-aggregate-refused-at : tie.Need-slice-aggregate-refused-at
+slice-aggregate-refused-at c = search needs
+
+cast-refused-at : tie.Need-cast-refused-at
+cast-refused-at c = search needs
+
+refused-at-requires : tie.Need-refused-at-requires
+refused-at-requires c κs = search needs
 
 same-length : tie.Need-same-length
 same-length c = search needs
@@ -70,10 +78,10 @@ same-length-2 c = search needs
 returns-4 : tie.Need-returns-4
 unfolding stepFor
 returns-4 c =
-    let i = c .before .before .before .before .before .before .before .before .before .before in
-    let g = c .before .before .before .before .before .number .given in
-    rw (sym (c .before .before .before .before .before .before .before .read .ensures) ∙ g .1)
-    (made (refusedPieces (g .0 .0) (g .0 .1 .0 .at)) First (i .args .p) (i .pre) (refused-fits (g .0 .0) (g .0 .1 .0 .at)) (c .before .before .refused .ensures))
+    let i = c .before .before .before .before .before .before .before .before .before .before .before in
+    let g = c .before .before .before .before .before .before .number .given in
+    rw (sym (c .before .before .before .before .before .before .before .before .read .ensures) ∙ g .1)
+    (made (refusedPieces (ascii "refused ") (g .0 .0) (g .0 .1 .0 .at)) First (i .args .p) (i .pre) (refused-fits (g .0 .0) (g .0 .1 .0 .at)) (c .before .before .refused-at .ensures))
 
 pub step-at-spec : {M : Type 1} → statement M
 step-at-spec =
@@ -86,7 +94,9 @@ step-at-spec =
     enum-known-after
     enum-told
     enum-known-number
-    refused-requires
+    slice-aggregate-refused-at
+    cast-refused-at
+    refused-at-requires
     same-length
     returns
     returns-2

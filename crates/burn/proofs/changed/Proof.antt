@@ -24,15 +24,15 @@ state-of-requires c κs = search needs
 periapo-requires : tie.Need-periapo-requires
 periapo-requires c κs = search needs
 
-judged-requires : tie.Need-judged-requires
-judged-requires c κs = search needs
+cleared-requires : tie.Need-cleared-requires
+cleared-requires c κs = search needs
 
 returns : tie.Need-returns
 unfolding changedOf
 returns c = let p = c .before .before .before in
     let d = p .before in
     let a = d .before .before .args in
-    c .judged .ensures
+    c .cleared .ensures
     ∙ ap (λ (x : Apsides). clearedOf (a .k) (d .difference .result) x) (c .before .periapo .ensures ∙ ap (apsidesOf (a .k .mu)) (c .before .before .state-of .ensures ∙ ap (λ (r : Vector). stateOf r (a .new)) (p .position .ensures)))
     ∙ ap (λ (x : Vector). clearedOf (a .k) x (apsidesOf (a .k .mu) (stateOf (positionOf (a .active)) (a .new)))) (d .difference .ensures ∙ ap (differenceOf (a .new)) (d .before .velocity .ensures))
 
@@ -45,5 +45,5 @@ changed-spec =
     position-requires
     state-of-requires
     periapo-requires
-    judged-requires
+    cleared-requires
     returns)

@@ -11,8 +11,8 @@ enum-known-c c = search needs
 passive-of-requires : tie.Need-passive-of-requires
 passive-of-requires c κs = search needs
 
-above-requires : tie.Need-above-requires
-above-requires c κs = search needs
+coelliptic-of-requires : tie.Need-coelliptic-of-requires
+coelliptic-of-requires c κs = search needs
 
 enum-known-c-2 : tie.Need-enum-known-c-2
 enum-known-c-2 c = search needs
@@ -21,7 +21,7 @@ returns : tie.Need-returns
 unfolding fromPoint
 returns c = let e = c .before .before .before in
     let a = e .before .before .args in
-    c .above .ensures ∙ ap (coellipticOf (a .k) (a .active)) (c .before .passive-of .ensures) ∙ ap (fromPoint (a .k) (a .active)) (sym (e .c .given .1))
+    c .coelliptic-of .ensures ∙ ap (coellipticOf (a .k) (a .active)) (c .before .passive-of .ensures) ∙ ap (fromPoint (a .k) (a .active)) (sym (e .c .given .1))
 
 returns-2 : tie.Need-returns-2
 unfolding fromPoint
@@ -31,4 +31,4 @@ returns-2 c = let a = c .before .before .before .args in
 pub from-point-spec : {M : Type 1} → statement M
 from-point-spec =
     tie.close
-    (tie.spec enum-known-c passive-of-requires above-requires enum-known-c-2 returns returns-2)
+    (tie.spec enum-known-c passive-of-requires coelliptic-of-requires enum-known-c-2 returns returns-2)

@@ -5,17 +5,11 @@ use borrow.Author.Needs.{needs}
 use Rattle.desk.proofs.take_some.Statement.{statement}
 use Rattle.desk.proofs.take_some.Tie as tie
 
-slice-aggregate-read : tie.Need-slice-aggregate-read
-slice-aggregate-read c = search needs
+slice-aggregate-read-some : tie.Need-slice-aggregate-read-some
+slice-aggregate-read-some c = search needs
 
-read-requires : tie.Need-read-requires
-read-requires c κs = search needs
-
-slice-aggregate-fail : tie.Need-slice-aggregate-fail
-slice-aggregate-fail c = search needs
-
-fail-requires : tie.Need-fail-requires
-fail-requires c κs = search needs
+read-some-requires : tie.Need-read-some-requires
+read-some-requires c κs = search needs
 
 returns : tie.Need-returns
 returns c = search needs
@@ -24,7 +18,7 @@ slice-reshare-prefix-answer : tie.Need-slice-reshare-prefix-answer
 slice-reshare-prefix-answer c = search needs
 
 slice-aggregate-answer : tie.Need-slice-aggregate-answer
-slice-aggregate-answer c = sym (length-take-le _ _ (c .before .before .before .before .before .before .before .before .before .pre))
+slice-aggregate-answer c = sym (length-take-le _ _ (c .before .before .before .before .before .before .before .before .before .before .pre))
 
 answer-requires : tie.Need-answer-requires
 answer-requires c κs = search needs
@@ -37,12 +31,6 @@ returns-2 c = search needs
 
 returns-3 : tie.Need-returns-3
 returns-3 c = search needs
-
-slice-aggregate-count : tie.Need-slice-aggregate-count
-slice-aggregate-count c = search needs
-
-count-requires : tie.Need-count-requires
-count-requires c κs = search needs
 
 array-share-prefix-input : tie.Need-array-share-prefix-input
 array-share-prefix-input c = search needs
@@ -63,10 +51,8 @@ pub take-some-spec : {M : Type 1} → statement M
 take-some-spec =
     tie.close
     (tie.spec
-    slice-aggregate-read
-    read-requires
-    slice-aggregate-fail
-    fail-requires
+    slice-aggregate-read-some
+    read-some-requires
     returns
     slice-reshare-prefix-answer
     slice-aggregate-answer
@@ -74,8 +60,6 @@ take-some-spec =
     same-length
     returns-2
     returns-3
-    slice-aggregate-count
-    count-requires
     array-share-prefix-input
     slice-aggregate-feed
     feed-requires

@@ -24,11 +24,14 @@ enum-told c = search needs
 enum-known-r-3 : tie.Need-enum-known-r-3
 enum-known-r-3 c = search needs
 
-cast-refused-line : tie.Need-cast-refused-line
-cast-refused-line c = search needs
+slice-aggregate-refused-at : tie.Need-slice-aggregate-refused-at
+slice-aggregate-refused-at c = search needs
 
-refused-line-requires : tie.Need-refused-line-requires
-refused-line-requires c κs = search needs
+cast-refused-at : tie.Need-cast-refused-at
+cast-refused-at c = search needs
+
+refused-at-requires : tie.Need-refused-at-requires
+refused-at-requires c κs = search needs
 
 same-length : tie.Need-same-length
 same-length c = search needs
@@ -58,7 +61,7 @@ same-length-3 c = search needs
 
 returns-4 : tie.Need-returns-4
 returns-4 c =
-    rw (c .before .before .before .before .before .r3 .given .1) (c .before .before .refused-line .ensures)
+    rw (c .before .before .before .before .before .before .r3 .given .1) (c .before .before .refused-at .ensures)
 
 pub lines-of-spec : {M : Type 1} → statement M
 lines-of-spec =
@@ -70,8 +73,9 @@ lines-of-spec =
     offset-lines-requires
     enum-told
     enum-known-r-3
-    cast-refused-line
-    refused-line-requires
+    slice-aggregate-refused-at
+    cast-refused-at
+    refused-at-requires
     same-length
     returns
     same-length-2

@@ -10,7 +10,7 @@ use Rattle.kepler.specs.Kepler.{turnedOf, motionOf, turnsOf}
 use Rattle.solve.specs.Ends.{motionFor, turnsFor}
 use Rattle.solve.specs.Answers.{concludedOf, advancedAs, advancedEnd}
 use Rattle.solve.specs.declared.Outcome.{Outcome}
-use Rattle.solve.specs.declared.Ended.{Ended}
+use Rattle.trials.specs.declared.Ended.{Ended}
 use Rattle.solve.proofs.Sounds.{kepler-sound}
 use Rattle.solve.proofs.advance_limited.Statement.{statement}
 use Rattle.solve.proofs.advance_limited.Tie as tie

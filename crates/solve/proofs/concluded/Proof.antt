@@ -37,13 +37,13 @@ returns c =
     let a = c .before .before .before .before .args in
     not-finished (a .size) (a .asked) (a .s) (sym (left (c .before)) ∙ c .if1 .taken)
 
-ending-requires : tie.Need-ending-requires
-ending-requires c κs = search needs
+outcome-at-requires : tie.Need-outcome-at-requires
+outcome-at-requires c κs = search needs
 
 returns-2 : tie.Need-returns-2
 returns-2 c =
     let a = c .before .before .before .before .before .args in
-    c .ending .ensures ∙ finished (a .size) (a .asked) (a .s) (sym (left (c .before .before)) ∙ c .before .if1 .left)
+    c .outcome-at .ensures ∙ finished (a .size) (a .asked) (a .s) (sym (left (c .before .before)) ∙ c .before .if1 .left)
 
 pub concluded-spec : {M : Type 1} → statement M
-concluded-spec = tie.close (tie.spec more-left-requires returns ending-requires returns-2)
+concluded-spec = tie.close (tie.spec more-left-requires returns outcome-at-requires returns-2)

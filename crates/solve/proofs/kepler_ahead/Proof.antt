@@ -7,7 +7,8 @@ use Rattle.table.specs.declared.Test.the-variants.{Passed}
 use Rattle.table.specs.Tests.{_▷_}
 use Rattle.table.proofs.Laws.{then, first-failing}
 use Rattle.kepler.specs.Kepler.{inputRow, rangeRows}
-use Rattle.solve.specs.Begun.{timesInput, keplerAhead}
+use Rattle.trials.specs.Carried.{timesInput}
+use Rattle.solve.specs.Ahead.{keplerAhead}
 use Rattle.solve.proofs.kepler_ahead.Statement.{statement}
 use Rattle.solve.proofs.kepler_ahead.Tie as tie
 

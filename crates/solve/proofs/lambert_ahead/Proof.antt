@@ -7,7 +7,8 @@ use Rattle.table.specs.declared.Test.the-variants.{Passed}
 use Rattle.table.specs.Tests.{_▷_}
 use Rattle.table.proofs.Laws.{then, first-failing}
 use Rattle.lambert.specs.Lambert.{inputRow, rangeRows}
-use Rattle.solve.specs.Begun.{timesInput, lambertAhead}
+use Rattle.trials.specs.Carried.{timesInput}
+use Rattle.solve.specs.Ahead.{lambertAhead}
 use Rattle.solve.proofs.lambert_ahead.Statement.{statement}
 use Rattle.solve.proofs.lambert_ahead.Tie as tie
 

@@ -5,7 +5,7 @@ use Rattle.lambert.specs.declared.Transfer.{Transfer}
 use Rattle.lambert.specs.Lambert.{transferOf}
 use Rattle.solve.specs.Answers.{concludedOf, transferredAs, transferredEnd}
 use Rattle.solve.specs.declared.Outcome.{Outcome}
-use Rattle.solve.specs.declared.Ended.{Ended}
+use Rattle.trials.specs.declared.Ended.{Ended}
 use Rattle.solve.proofs.Sounds.{lambert-sound}
 use Rattle.solve.proofs.transfer_velocity_limited.Statement.{statement}
 use Rattle.solve.proofs.transfer_velocity_limited.Tie as tie

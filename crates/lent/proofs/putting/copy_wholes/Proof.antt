@@ -43,7 +43,7 @@ loop-again : tie.Need-loop-again Inv-loop μ-loop
 loop-again c =
     let i = c .before .before .loop .inv in
     let a = c .before .before .before .args in
-    (i .0, i .1, omega arith, i .3, rw (i .4, add-one) (filled (now (a .xs)) (now (a .out)) (c .before .before .loop .i) _ (omega arith) (i .3)))
+    (i .0, i .1, omega arith, i .3, rw (i .4, add-one) (filled (now (a .zs)) (now (a .out)) (c .before .before .loop .i) _ (omega arith) (i .3)))
 
 same-length : tie.Need-same-length Inv-loop μ-loop
 same-length c = let i = c .before .loop .inv in sized _ _ _ (i .4) (i .2) (i .3)
@@ -52,7 +52,7 @@ returns : tie.Need-returns Inv-loop μ-loop
 returns c =
     let i = c .before .loop .inv in
     let a = c .before .before .args in
-    all (now (a .xs)) (now (a .out)) (c .before .loop .i) (i .4) (omega arith)
+    all (now (a .zs)) (now (a .out)) (c .before .loop .i) (i .4) (omega arith)
 
 pub copy-wholes-spec : {M : Type 1} → statement M
 copy-wholes-spec =

@@ -7,6 +7,7 @@ use Rattle.session.specs.declared.record.Kind.the-variants.{State, Burn, Mark}
 use Rattle.lines.specs.Days.{localOf}
 use Rattle.lines.specs.Lines.{lineRoom, recordText}
 use Rattle.lines.proofs.Locals.{local-small}
+use Rattle.text.proofs.Lays.{all-fit}
 use Rattle.lines.proofs.Sizes.{event-fits}
 use Rattle.text.proofs.Fronts.{too-short, in-front}
 use borrow.Author.Needs.{needs}
@@ -46,7 +47,7 @@ returns-2 c =
     let s = toZ-ofZ {w = w64} {z = t} h in
     let u = toZ-ofZ {w = w16} {z = o} (c .before .before .before .before .before .before .before .before .before .before .fits .offset) in
     let l = local-small t o h (c .before .before .before .before .before .before .before .before .before .before .fits .offset) in
-    rw (x .1) (in-front {room = lineRoom} (c .before .before .before .before .before .before .before .before .if1 .left) (event-fits (localOf t o) (x .0 .0 .vehicle) State l (c .before .before .before .struct-told .given .0 .1)) (rw (s, u) at (c .before .before .event .ensures)))
+    rw (x .1) (in-front {room = lineRoom} (c .before .before .before .before .before .before .before .before .if1 .left) (event-fits (localOf t o) (x .0 .0 .vehicle) State l (c .before .before .before .struct-told .given .0 .1)) (all-fit (rw (s, u) at (c .before .before .event .ensures))))
 
 same-length-2 : tie.Need-same-length-2
 same-length-2 c = search needs
@@ -60,7 +61,7 @@ returns-3 c =
     let s = toZ-ofZ {w = w64} {z = t} h in
     let u = toZ-ofZ {w = w16} {z = o} (c .before .before .before .before .before .before .before .before .before .before .fits .offset) in
     let l = local-small t o h (c .before .before .before .before .before .before .before .before .before .before .fits .offset) in
-    rw (x .1) (in-front {room = lineRoom} (c .before .before .before .before .before .before .before .before .if1 .left) (event-fits (localOf t o) (x .0 .0 .vehicle) Burn l (c .before .before .before .struct-told2 .given .0 .1)) (rw (s, u) at (c .before .before .event2 .ensures)))
+    rw (x .1) (in-front {room = lineRoom} (c .before .before .before .before .before .before .before .before .if1 .left) (event-fits (localOf t o) (x .0 .0 .vehicle) Burn l (c .before .before .before .struct-told2 .given .0 .1)) (all-fit (rw (s, u) at (c .before .before .event2 .ensures))))
 
 same-length-3 : tie.Need-same-length-3
 same-length-3 c = search needs
@@ -74,7 +75,7 @@ returns-4 c =
     let s = toZ-ofZ {w = w64} {z = t} h in
     let u = toZ-ofZ {w = w16} {z = o} (c .before .before .before .before .before .before .before .before .before .before .fits .offset) in
     let l = local-small t o h (c .before .before .before .before .before .before .before .before .before .before .fits .offset) in
-    rw (x .1) (in-front {room = lineRoom} (c .before .before .before .before .before .before .before .before .if1 .left) (event-fits (localOf t o) (x .0 .0 .vehicle) Mark l (c .before .before .before .struct-told3 .given .0 .1)) (rw (s, u) at (c .before .before .event3 .ensures)))
+    rw (x .1) (in-front {room = lineRoom} (c .before .before .before .before .before .before .before .before .if1 .left) (event-fits (localOf t o) (x .0 .0 .vehicle) Mark l (c .before .before .before .struct-told3 .given .0 .1)) (all-fit (rw (s, u) at (c .before .before .event3 .ensures))))
 
 pub record-line-spec : {M : Type 1} → statement M
 record-line-spec =
