@@ -1,7 +1,7 @@
 #!/usr/bin/env python3
 """Every routine that others call keeps its promise on paper: it has no `requires`, it has an `ensures`, and
-docs/PROMISES.md has a row for it, whose definition and must-fail edits are there. Prints each that does not, and ends
-with 1 if there is one."""
+docs/PROMISES.md has a row for it, whose definition and must-fail edits are there. Each law of that page stands in the
+proofs that its row names. Prints each that does not, and ends with 1 if there is one."""
 import pathlib
 import re
 import sys
@@ -58,10 +58,25 @@ def faults_of_names(page):
             yield f"docs/PROMISES.md cites the edit {crate}/{name}, which is not there"
 
 
+def faults_of_laws(page):
+    """The laws of a row that none of its files has: CRATE/proofs/FILE, and further files of the same crate by their names."""
+    for laws, where in re.findall(r"^\| (`[\w-]+`.*?) \| .* \| ([^|]*/proofs/[^|]*) \|$", page, re.M):
+        written, crate = "", ""
+        for place in re.split(r"[;,] ", where):
+            crate, _, file = place.rpartition("/proofs/") if "/proofs/" in place else (crate, "", place)
+            path = ROOT / "crates" / crate / "proofs" / f"{file}.antt"
+            if not path.exists():
+                yield f"docs/PROMISES.md: a row of laws names {crate}/proofs/{file}, which is not there"
+            written += path.read_text() if path.exists() else ""
+        for law in re.findall(r"`([^`]*[^-`])`", laws):  # a name that ends in a dash stands for several
+            if not re.search(rf"^\s*(?:(?:abbrev|unfoldable) )?(?:pub )?(?:record )?{re.escape(law)}[ :]", written, re.M):
+                yield f"docs/PROMISES.md: {where} does not have the law {law}"
+
+
 def main():
     page = PAGE.read_text()
     rows = re.findall(r"^\| `(\w+)::(\w+)`", page, re.M)
-    faults, seen = list(faults_of_names(page)), set()
+    faults, seen = [*faults_of_names(page), *faults_of_laws(page)], set()
     for crate in sorted((ROOT / "crates").iterdir()):
         if not (crate / "src" / "lib.rt").exists():
             continue
