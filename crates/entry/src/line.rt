@@ -1,7 +1,5 @@
 // The lines, by their first word.
 ghost use mathlib.Core.Path.{_≡_};
-ghost use Rattle.words.specs.Words.{wordAt};
-ghost use Rattle.entry.specs.Parts.{stampOf, vectorAt};
 ghost use Rattle.entry.specs.Entries.{ended, offsetEntry, bodied, stateEntry, burnEntry, markEntry, namedOf, entryOf};
 use crate::parts::Pair;
 use crate::parts::Stamp;

@@ -1,8 +1,7 @@
 -- The vehicles of a replay that are handed out and handed in again are those vehicles. Assumes nothing.
 use Prim.Native.Nat.{ℕ}
-use mathlib.Core.Path.{_≡_, refl, ap, _∙_}
+use mathlib.Core.Path.{_≡_, refl}
 use mathlib.Core.List.{List}
-use lib.IntN.{ℤ}
 use lib.Ieee.{Float}
 use mir.Syntax.{w64}
 use mir.Val.{SFits}

@@ -7,8 +7,6 @@ use lib.ListN.{length}
 use lib.Ieee.{Float}
 use Rattle.real.specs.declared.Answer.{Answer}
 use Rattle.real.specs.declared.Answer.the-variants as N
-use Rattle.root.specs.Root.{rootAnswer}
-use Rattle.series.specs.Series.{cAnswer, sAnswer}
 use Rattle.theta.specs.declared.TransferTime.{TransferTime}
 use Rattle.theta.specs.declared.TransferTime.the-variants as T
 use Rattle.theta.specs.Theta.{thetaOf}

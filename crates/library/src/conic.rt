@@ -1,5 +1,5 @@
 // The conic routines.
-ghost use Rattle.lent.specs.Given.{Given, GivenNumbers, roomFor};
+ghost use Rattle.lent.specs.Given.{Given, GivenNumbers};
 ghost use Rattle.library.specs.Answers.{timeTold, timeIn, apsidesTold, apsidesIn};
 ghost use Prim.Native.Nat.{_≤_};
 ghost use lib.ListN.{length};

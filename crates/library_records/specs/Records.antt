@@ -16,7 +16,6 @@ use Rattle.session.specs.declared.Reading.{Reading}
 use Rattle.session.specs.declared.Reading.the-variants as R
 use Rattle.session.specs.Kinds.{kindNumber, recordLength}
 use Rattle.session.specs.Layout.{recordWith, kindIn, vehicleIn, byteIn, timeIn, numbersIn, bytesOf}
-use Rattle.session.specs.Offset.{offsetBytes}
 use Rattle.session.specs.Read.{readAt}
 use Rattle.writer.specs.declared.record.Written.{Written}
 use Rattle.writer.specs.declared.record.Written.the-variants as W

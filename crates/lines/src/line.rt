@@ -1,5 +1,4 @@
 // The lines themselves: the heading, a record's and a refusal's.
-ghost use mathlib.Core.Path.{_≡_};
 ghost use Rattle.session.specs.Kinds.{nameOf};
 ghost use Rattle.text.specs.Text.{InFront, Put};
 ghost use Rattle.text.specs.Pieces.{Laid};

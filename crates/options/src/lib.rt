@@ -1,7 +1,6 @@
 // What may stand behind an iterated solve: where its trials begin, a limit on their count, and the version of the settings
 // whose fractions grade it. What is there stands in this order, and a word that is none of these cannot be read.
 ghost use Prim.Native.Nat.{_^_, _<_};
-ghost use mathlib.Core.Path.{_≡_};
 ghost use Rattle.options.specs.Options.{ReadsEnd, ReadsStop, ReadsEnded, ReadsVersion, ReadsLimited, ReadsOptions};
 use forms::Judged;
 use forms::Version;

@@ -1,7 +1,6 @@
 // What the settings are asked, in the words of a line: `list`, `show K`, `store BODY MU RADIUS CLOSED FAIR`, `back K`.
 ghost use mathlib.Core.Path.{_≡_};
-ghost use Rattle.words.specs.Words.{wordAt};
-ghost use Rattle.orders.specs.Orders.{ended, numberedBy, versionOrder, fractionsOrder, constantsOrder, storeOrder, orderBy, orderOf};
+ghost use Rattle.orders.specs.Orders.{ended, versionOrder, fractionsOrder, constantsOrder, storeOrder, orderBy, orderOf};
 use numerals::Number;
 use numerals::Whole;
 use numerals::read_number;

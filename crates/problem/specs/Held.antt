@@ -1,6 +1,6 @@
 -- A bracket to go on from: its ends on the grid and in order, judged afresh, and right for their place (T-14, row 6).
 -- Assumes nothing: these are definitions.
-use mathlib.Core.Bool.{Bool, true, cond, _&&_}
+use mathlib.Core.Bool.{Bool, cond, _&&_}
 use mathlib.Core.List.{List, [], _∷_, _++_}
 use lib.Dec.{leb}
 use lib.IntN.{ℤ}

@@ -1,8 +1,8 @@
 -- A whole number of up to 2^53 in size is an f64 itself, so that the cast loses nothing. Assumes nothing.
-use Prim.Native.Nat.{ℕ, _≤_, _<_, _^_}
-use native.Mathlib.Nat.{le-trans, lt-of-le-of-lt}
+use Prim.Native.Nat.{ℕ, _≤_, _^_}
+use native.Mathlib.Nat.{lt-of-le-of-lt}
 use mathlib.Core.Path.{_≡_, sym, subst}
-use mathlib.Core.Bool.{Bool, true}
+use mathlib.Core.Bool.{true}
 use lib.Dec.{T, lit≤, le→leb, lt→ltb, leb→le}
 use lib.IntN.{ℤ, pos, negsuc}
 use lib.Signed.{leZ}

@@ -1,5 +1,5 @@
 // One record at the front of some bytes: its tests in their order, and its fields.
-ghost use Prim.Native.Nat.{_+_, _*_, _≤_};
+ghost use Prim.Native.Nat.{_≤_};
 ghost use mathlib.Core.Path.{_≡_};
 ghost use lib.ListN.{length};
 ghost use Rattle.field.specs.Bytes.{field};

@@ -14,7 +14,6 @@ use Rattle.table.specs.declared.Test.the-variants.{Passed, Failed}
 use Rattle.table.specs.Tests.{firstFailing, allMeet, passes}
 use Rattle.table.proofs.Laws.{one-row}
 use Rattle.iterator.specs.declared.Bracket.{Bracket}
-use Rattle.kepler.specs.declared.Arrival.the-variants.{InRange}
 use Rattle.lambert.specs.declared.Way.{Way}
 use Rattle.lambert.specs.declared.Transfer.{Transfer}
 use Rattle.lambert.specs.Lambert.{transferOf, lambertTests, velocityAt, resultRow}

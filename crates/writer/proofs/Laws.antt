@@ -3,7 +3,7 @@ use Prim.Native.Nat.{ℕ, _-_, _%_, _<_}
 use native.Mathlib.Omega.{arith}
 use mathlib.Core.Path.{_≡_, refl, sym, ap, _∙_}
 use mathlib.Core.List.{List, [], _∷_, _++_, append-assoc, append-nil}
-use mathlib.Core.Bool.{Bool, true, false, _&&_, true≢false}
+use mathlib.Core.Bool.{Bool, true, false, _&&_}
 use lib.ListN.{length}
 use lib.Dec.{leb}
 use lib.IntN.{ℤ, pos, negsuc}
@@ -19,7 +19,6 @@ use Rattle.session.specs.Kinds.{kindNumber, recordLength, topOf}
 use Rattle.session.specs.Layout.{kindIn, vehicleIn, byteIn, timeIn, numbersIn, allFinite, numberBytes, bytesOf}
 use Rattle.session.specs.Offset.{offsetBytes}
 use Rattle.session.specs.Decode.{allowedIn}
-use Rattle.signs.specs.Sign.{negative}
 use Rattle.writer.specs.Write.{restBytes}
 
 -- the bits of numbers, one behind the other

@@ -1,9 +1,7 @@
 // The local offset's record written: first in its session, or not at all.
 ghost use Prim.Native.Nat.{_≤_};
 ghost use mathlib.Core.Path.{_≡_};
-ghost use mathlib.Core.Bool.{_&&_};
 ghost use lib.ListN.{length};
-ghost use lib.Dec.{eqb};
 ghost use Rattle.text.specs.Text.{Stands};
 ghost use Rattle.session.specs.Offset.{offsetBytes};
 ghost use Rattle.writer.specs.Write.{offsetMay, offsetWritten, offsetBuffer};

@@ -1,5 +1,4 @@
 -- `iterator::more_left` meets its contract: ends that pass the test lie on a grid. Assumes nothing.
-use Prim.Native.Nat.{ℕ}
 use mathlib.Core.Path.{_≡_, sym, ap, _∙_}
 use borrow.Author.Needs.{needs}
 use borrow.Author.Tests.{not-true, not-false}

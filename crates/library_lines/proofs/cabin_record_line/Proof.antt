@@ -1,6 +1,6 @@
 -- Short or not, a kind or none, and then the line. Assumes nothing.
 use Prim.Native.Nat.{ℕ}
-use mathlib.Core.Path.{_≡_, _∙_}
+use mathlib.Core.Path.{_∙_}
 use mathlib.Core.List.{[], _∷_}
 use lib.ListN.{getD}
 use lib.Ieee.{nan, ofBits, binary64}
@@ -8,8 +8,8 @@ use denote.Ref.{now}
 use mir.Syntax.{w16, w64}
 use mir.Facts.{toZ-ofZ}
 use borrow.Author.Tests.{lt-leb, le-leb}
-use Rattle.lines.specs.Lines.{lineRoom, recordText}
-use Rattle.library_records.specs.Records.{kindFrom, recordFrom}
+use Rattle.lines.specs.Lines.{lineRoom}
+use Rattle.library_records.specs.Records.{kindFrom}
 use Rattle.library_lines.specs.Listing.{recordLine, recordLineTold}
 use Rattle.lent.proofs.Gives.{left-wholes, short-wholes, enough-wholes}
 use Rattle.library_records.proofs.Laws.{short-bytes, left-bytes}

@@ -1,6 +1,6 @@
 -- Short or not, and then the stream. Assumes nothing.
 use mathlib.Core.Path.{refl}
-use mir.Syntax.{w16, w64}
+use mir.Syntax.{w16}
 use mir.Facts.{toZ-ofZ}
 use borrow.Author.Tests.{lt-leb, le-leb}
 use Rattle.lent.proofs.Gives.{short, enough}

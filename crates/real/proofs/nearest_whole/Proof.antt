@@ -2,12 +2,11 @@
 use borrow.Author.Needs.{needs}
 use Prim.Native.Nat.{_≤_, _^_}
 use native.Mathlib.Nat.{lt-of-le-of-lt}
-use mathlib.Core.Path.{_≡_, ap, sym, subst}
-use lib.Dec.{T, lit≤, leb→le}
-use lib.IntN.{ℤ, pos}
+use mathlib.Core.Path.{ap, sym, subst}
+use lib.Dec.{T, lit≤}
+use lib.IntN.{ℤ}
 use lib.Ieee.{binary64, ofInt, inFloat}
 use mir.Syntax.{w64}
-use mir.Val.{toZ}
 use mir.Facts.{toZ-pos}
 use Rattle.real.proofs.Wholes.{whole-in}
 use Rattle.real.proofs.nearest_whole.Statement.{statement}

@@ -1,7 +1,6 @@
 -- `solve::advance_ended` meets its contract. Assumes nothing.
 use borrow.Author.Needs.{needs}
-use mathlib.Core.Path.{_≡_, ap, _∙_}
-use lib.Ieee.{Float}
+use mathlib.Core.Path.{ap, _∙_}
 use Rattle.kepler.specs.declared.Motion.{Motion}
 use Rattle.kepler.specs.declared.Turns.{Turns}
 use Rattle.kepler.specs.Kepler.{motionOf, turnsOf}

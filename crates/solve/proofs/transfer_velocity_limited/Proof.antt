@@ -1,6 +1,6 @@
 -- `solve::transfer_velocity_limited` meets its contract: what the bracket that the trials end on comes to. Assumes nothing.
 use borrow.Author.Needs.{needs}
-use mathlib.Core.Path.{_≡_, sym, ap, _∙_}
+use mathlib.Core.Path.{sym, ap, _∙_}
 use Rattle.lambert.specs.declared.Transfer.{Transfer}
 use Rattle.lambert.specs.Lambert.{transferOf}
 use Rattle.solve.specs.Answers.{concludedOf, transferredAs, transferredEnd}

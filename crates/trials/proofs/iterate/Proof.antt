@@ -6,7 +6,7 @@ use mir.Syntax.{w64}
 use mir.Val.{SFits, toZ, ofZ}
 use mir.Facts.{toZ-ofZ}
 use Rattle.iterator.specs.Rule.{widthOf}
-use Rattle.iterator.specs.Run.{nextPoint, narrowed, next, runTo}
+use Rattle.iterator.specs.Run.{narrowed, next, runTo}
 use Rattle.iterator.specs.declared.Judgement.{Judgement}
 use Rattle.iterator.specs.declared.Bracket.{Bracket}
 use Rattle.iterator.proofs.Grids.{point-fits}

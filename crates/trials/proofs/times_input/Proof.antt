@@ -1,5 +1,5 @@
 -- `trials::times_input` meets its contract: none at the start; of a stopped bracket lo's and then hi's. Assumes nothing.
-use mathlib.Core.Path.{_≡_, ap, _∙_}
+use mathlib.Core.Path.{ap, _∙_}
 use borrow.Author.Needs.{needs}
 use Rattle.table.specs.declared.Name.the-variants.{Lo, Hi}
 use Rattle.table.specs.declared.Test.{Test}

@@ -1,5 +1,5 @@
 -- Short or not, and then the record. Assumes nothing.
-use mir.Syntax.{w16, w64}
+use mir.Syntax.{w16}
 use mir.Facts.{toZ-ofZ}
 use borrow.Author.Tests.{lt-leb, le-leb}
 use Rattle.lent.proofs.Gives.{short, enough}

@@ -1,6 +1,6 @@
 -- Kind by kind. Assumes nothing.
 use mathlib.Core.Path.{refl}
-use mir.Syntax.{w16, w64}
+use mir.Syntax.{w64}
 use mir.Facts.{toZ-ofZ}
 use borrow.Author.Needs.{needs}
 use Rattle.library_records.proofs.reading.head_of.Statement.{statement}

@@ -1,5 +1,4 @@
 -- The bits of the field. Assumes nothing.
-use mathlib.Core.Path.{_≡_}
 use mir.Syntax.{w16, w64}
 use mir.Facts.{toZ-ofZ}
 use native.Mathlib.Omega.{arith}

@@ -1,5 +1,5 @@
 -- By the kind. Assumes nothing.
-use mir.Syntax.{w16, w64}
+use mir.Syntax.{w64}
 use mir.Facts.{toZ-ofZ}
 use borrow.Author.Tests.{eq-eqb, ne-eqb}
 use Rattle.library_records.specs.Records.{kindFrom}
