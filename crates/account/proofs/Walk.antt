@@ -113,8 +113,17 @@ more-steps (suc f) mu s Done p h = done-text (suc (suc f)) mu s p ∙ sym (done-
 -- ---- told from the heading on, one line after another until nothing is left, the lines are the account
 
 settled : (d : ℕ) (mu : Mu) (s : List ℕ) (next : Next) (p : Replay) → textIn (d + need s next) mu s next p ≡ textIn (need s next) mu s next p
-settled zero mu s next p = refl
-settled (suc d) mu s next p = more-steps (d + need s next) mu s next p (omega arith) ∙ settled d mu s next p
+settled zero mu s next p = ap (λ (k : ℕ). textIn k mu s next p) (none (need s next))
+  where
+    none : (n : ℕ) → 0 + n ≡ n
+    none n = omega arith
+settled (suc d) mu s next p =
+    ap (λ (k : ℕ). textIn k mu s next p) (one (need s next))
+    ∙ more-steps (d + need s next) mu s next p (omega arith)
+    ∙ settled d mu s next p
+  where
+    one : (n : ℕ) → suc d + n ≡ suc (d + n)
+    one n = omega arith
 
 pub line-by-line : (mu : Mu) (s : List ℕ) (next : Next) (p : Replay) → isDone next ≡ false
     → textIn (need s next) mu s next p
