@@ -290,12 +290,17 @@ heard() { # COMMAND..
 
 # ---- a file that appears whole or not at all
 
+# Sees to it that a folder is there.
+need_folder() { # FOLDER
+    [ ! -d "$1" ] || return 0
+    [ ! -e "$1" ] || fail "$1 is no folder: give another path"
+    fail "there is no folder $1: make it, or give another path"
+}
+
 # Sees to it that a file may be made, or replaced.
 need_place() { # FILE REPLACE
-    local folder
     [ -n "$1" ] || fail "the file's name is empty: give the path of the session to be written"
-    folder=$(dirname -- "$1")
-    [ -d "$folder" ] || fail "there is no folder $folder: make it, or give another path"
+    need_folder "$(dirname -- "$1")"
     [ ! -e "$1" ] && [ ! -L "$1" ] && return
     [ "$2" = yes ] || fail "$1 exists and stays as it is: give another path, or say --replace before it"
     [ -f "$1" ] || fail "$1 is no plain file: give another path"

@@ -302,7 +302,8 @@ def _():
 @case("write: a folder that is not there or cannot be written, an empty name, closed input: 2")
 def _():
     with Folder() as room:
-        hold(front("write", room.path / "none" / "file", given=TEXT), 2, b"", "no folder")
+        hold(front("write", room.path / "none" / "file", given=TEXT), 2, b"", "there is no folder .*/none: make it")
+        hold(front("write", SAMPLE / "file", given=TEXT), 2, b"", "session.bin is no folder: give another path")
         hold(front("write", "", given=TEXT), 2, b"", "empty")
         hold(front("write", room.file, closed=[0]), 2, b"", "standard input is closed")
         room.path.chmod(0o555)
@@ -524,7 +525,11 @@ def _():
         file = room / "settings"
         hold(front("settings", room, "list"), 2, b"", "cannot be read")
         hold(front("settings", "", "list"), 2, b"", "name is empty")
-        hold(store(room / "none" / "settings", *EARTH), 2, b"", "no folder")
+        hold(store(room / "none" / "settings", *EARTH), 2, b"", "there is no folder .*/none: make it")
+        hold(store(SAMPLE / "settings", *EARTH), 2, b"", "session.bin is no folder: give another path")
+        (room / "lost").symlink_to("none/settings")
+        hold(store(room / "lost", *EARTH), 2, b"", "lost is a link to where no file can be")
+        (room / "lost").unlink()
         hold(front("settings", room / "none" / "settings", "list"), 0, b"")
         hold(store(file, *EARTH, limit=20), 2, b"", "File too large")
         assert not os.listdir(room)

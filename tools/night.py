@@ -188,7 +188,7 @@ class Night:
     def __init__(self, folder, given):
         refly, listing, mu, self.settings = programs()
         if not os.path.isdir(folder):
-            raise Fault(f"there is no folder {folder}: give the folder that has a folder for each cabin")
+            raise Fault((f"{folder} is no folder" if os.path.exists(folder) else f"there is no folder {folder}") + ": give the folder that has a folder for each cabin")
         self.folder, self.jobs, self.store, self.mu = folder, given["--jobs"], Store(given["--out"]), mu
         try:
             self.runner = Runner(refly, listing, mu, given["--limit"], given["--patience"])

@@ -389,6 +389,7 @@ def _():
         hold(night(folder, "--out", folder / "a" / "x.bin" / "results"), 2, "^$", "Not a directory: a file is where a folder must be: give other results")
         hold(night(folder, "--out", folder / "a" / "x.bin"), 2, "^$", "Not a directory: a file is where a folder must be: give other results")
         hold(front(folder / "none", "--out", results), 2, "^$", "there is no folder")
+        hold(night(folder / "a" / "x.bin", "--out", results), 2, "^$", "x.bin is no folder: give the folder that has a folder for each cabin")
         assert not results.exists()
         (results / "report.txt").mkdir(parents=True)
         hold(night(folder, "--out", results), 2, "^$", "Is a directory: a folder is where a file must be: move it away")
