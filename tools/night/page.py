@@ -4,7 +4,7 @@ import math
 import re
 
 from . import plots
-from .report import COLUMNS, by_cabin, cells, clock, counts, days_of, failed_first, headline, many, places, terms
+from .report import COLUMNS, below, by_cabin, cells, clock, counts, days_of, failed_first, headline, many, places
 from .verdict import Broken, parsed, worst_of
 
 PLOTTED = 1000  # sessions with pictures, what failed first; more would make the page too large for a phone
@@ -151,13 +151,13 @@ def coloured(words):
 
 def as_html(told, store, limit, mu):
     ordered, mu, words = failed_first(told.results), plots.mu_of(mu), headline(told)
-    below = "".join(f'<p class="small">{html.escape(line)}</p>' for line in terms(told))
+    lines = "".join(f'<p class="small">{html.escape(line)}</p>' for line in below(told))
     parts = [session_part(k, one, store, limit, mu) for k, one in enumerate(ordered[:PLOTTED])]
     more = f"<p>The other {len(ordered) - PLOTTED} have no pictures here; <code>./cabin replay</code> shows their lines.</p>" if len(ordered) > PLOTTED else ""
     return (
         '<!DOCTYPE html>\n<html lang="en"><head><meta charset="utf-8"><meta name="viewport" content="width=device-width, initial-scale=1">'
         f'<title>Night run: {html.escape(words)}</title><style>{STYLE}</style></head><body>\n'
-        f'<h1>Night run</h1><p class="big">{coloured(words)}</p>{below}'
+        f'<h1>Night run</h1><p class="big">{coloured(words)}</p>{lines}'
         '<nav><a href="#days">Days</a><a href="#sessions">Sessions</a><a href="#pictures">Pictures</a></nav>\n'
         f"{days_part(told)}\n{sessions_part(ordered, limit)}\n"
         f'<section id="pictures"><h2>Pictures</h2>{"".join(parts)}{more}</section>\n</body></html>\n'

@@ -93,7 +93,7 @@ def headline(told):
     return text + (f"; {many(len(told.closed), 'cabin')} could not be looked into" if told.closed else "")
 
 
-def terms(told):
+def below(told):
     """The lines below the headline."""
     return [f"could not be looked into: {', '.join(told.closed)}"] * bool(told.closed) + [told.terms]
 
@@ -119,7 +119,7 @@ def table(results):
 
 
 def as_text(told):
-    lines = [headline(told), *terms(told), ""]
+    lines = [headline(told), *below(told), ""]
     lines += lined_up([("cabin", "passed", "failed", "broken"), *((name, *(str(counts(own)[v]) for v in ("passed", "failed", "broken"))) for name, own in by_cabin(told))])
     lines += ["", "sessions, what failed first:", *table(told.results), "", "which cabins were run on which local day:"]
     rows = [("none" if day is None else str(day), cabin, counted(own)) for day, own_of in days_of(told.results) for cabin, own in sorted(own_of.items())]
