@@ -5,8 +5,9 @@
  *
  * Every function returns a refusal's number, and 0 for an answer. Arrays are lent as a pointer and the count of their
  * elements (not of bytes); a longer array than is asked for will do. What is `const` is only read. What is not is written on
- * an answer alone, in its first places: refused, every byte of it is as it was. No function keeps a pointer, allocates,
- * prints, or reads anything but what it is handed, so that any number of threads may call them at once.
+ * an answer alone, in its first places: refused, every byte of it is as it was (but for the room of cabin_take_next, which is
+ * the reader's own). No function keeps a pointer, allocates, prints, or reads anything but what it is handed, so that any
+ * number of threads may call them at once.
  *
  * It is yours to see to it that a pointer points to as many elements as its count says, and that no array that is written
  * overlaps another array of the same call. A pointer whose count is 0 may be null.

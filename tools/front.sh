@@ -19,6 +19,16 @@ say() { printf 'cabin: %s\n' "$*" >&2 || true; }
 fail() { say "$*"; exit 2; }
 refuse() { say "$*"; failure=1; exit 1; }
 
+# Writes a text on standard output, at once, so that a reader may stop early. Where that fails, what was done is said first.
+put_out() { # TEXT [DONE]
+    hear cat <<<"$1" || fail "${2-}$(in_our_words)"
+}
+
+# Says what is waited for, where that comes from a keyboard.
+await() { # WORDS
+    [ ! -t 0 ] || say "$1; end with Ctrl-D"
+}
+
 # A closed stream would be given to the next file that is opened, so none stays closed. (Bash itself puts the script in
 # the place of a closed standard error.)
 open_streams() {
@@ -135,6 +145,7 @@ declare -A program # NAME: the path of its proved program
 # Sees to it that a program is there that is made of its files as they are now. Under CABIN_BUILD=no nothing is built: the
 # gate builds once.
 ready() { # NAME
+    [ -f "$home/crates/$1/src/main.rt" ] || fail "'$1' is no program of crates/: those are$(cd "$home/crates" && printf ' %s' */src/main.rt | sed 's|/src/main.rt||g')"
     need_kit
     while program[$1]=$keep/$1-$(digest "$1"); [ ! -x "${program[$1]}" ]; do
         [ "${CABIN_BUILD:-yes}" = yes ] || fail "'$1' is not built as its files are now"
@@ -253,24 +264,43 @@ hear() { # COMMAND..
     return "$status"
 }
 
-# The same for what should say nothing. A Rattle program has no status: where one cannot read or write it says so on
-# standard error, and that ends in 2.
+# What is in `said`; where it is that standard output failed, whoever says so, in our words.
+in_our_words() {
+    if [[ $said =~ (write error|standard output\'?):\ ([^$'\n']*) ]]; then
+        printf 'standard output could not be written: %s' "${BASH_REMATCH[2]}"
+    else
+        printf '%s' "$said"
+    fi
+}
+
+# Ends in 2 where something is in `said`, and else answers the status. A Rattle program has none: where one cannot read or
+# write it says so on standard error.
+nothing_said() { # STATUS
+    [ -z "$said" ] || fail "$(in_our_words)"
+    [ "$1" -le 1 ] || fail "it ended with status $1"
+    return "$1"
+}
+
+# The same as `hear`, for what should say nothing.
 heard() { # COMMAND..
     local status=0
     hear "$@" || status=$?
-    [ -z "$said" ] || fail "${said##*printf: }"
-    [ "$status" -le 1 ] || fail "it ended with status $status"
-    return "$status"
+    nothing_said "$status"
 }
 
 # ---- a file that appears whole or not at all
 
+# Sees to it that a folder is there.
+need_folder() { # FOLDER
+    [ ! -d "$1" ] || return 0
+    [ ! -e "$1" ] || fail "$1 is no folder: give another path"
+    fail "there is no folder $1: make it, or give another path"
+}
+
 # Sees to it that a file may be made, or replaced.
 need_place() { # FILE REPLACE
-    local folder
     [ -n "$1" ] || fail "the file's name is empty: give the path of the session to be written"
-    folder=$(dirname -- "$1")
-    [ -d "$folder" ] || fail "there is no folder $folder: make it, or give another path"
+    need_folder "$(dirname -- "$1")"
     [ ! -e "$1" ] && [ ! -L "$1" ] && return
     [ "$2" = yes ] || fail "$1 exists and stays as it is: give another path, or say --replace before it"
     [ -f "$1" ] || fail "$1 is no plain file: give another path"

@@ -26,6 +26,7 @@ SAMPLE = ROOT / "samples" / "session.bin"
 WHOLE = listing(sample())
 REFUSED = sample() + b"\x26\x00\x09\x00"
 NOBODY = 65534
+NO_ROOM = "standard output could not be written: No space left on device\n"
 
 # The kit's stand-in. STUB holds what its runs leave and find: `runs` (a line a start and an end), `hook` (run in the
 # middle of a proof), `ci` (what tools/proofs.sh does).
@@ -193,7 +194,37 @@ def _():
             hold(front(name, *("x" * (len(words) + 1))), 2, b"", f"usage: ./cabin {name}")
         for _missing in re.sub(r"\[[^]]*\]", "", usage).split()[1:]:
             hold(front(name), 2, b"", f"usage: ./cabin {name}")
-    hold(front("lists"), 2, b"", "no command 'lists'")
+    for word in ("lists", "", "#", "# sessions"):
+        hold(front(word), 2, b"", f"no command '{word}'")
+    assert front() == front("help") == front("--help")
+
+
+@case("help of a command with options, and the command alone: a line an option")
+def _():
+    known = set(re.findall(r'"(--[a-z]+)"', (ROOT / "tools" / "night.py").read_text())) - {"--run"} | {"--settings"}
+    for words, status in ((["help", "night"], 0), (["night", "--help"], 0), (["night"], 2)):
+        got, wrote, said = front(*words)
+        told = re.findall(r"^  (--[a-z]+)(?: [A-Z/]+)*  +\S", said if status else wrote.decode(), re.M)
+        assert got == status and set(told) == known and len(told) == len(known) >= 9, (words, told, said)
+
+
+@case("a crate that is no program: 2, and nothing is built")
+def _():
+    for words in (["ready", "lines"], ["run", "lines"], ["ready", "none"]):
+        hold(front(*words), 2, b"", f"'{words[1]}' is no program of crates/: those are .*desk .*listing")
+
+
+@case("a keyboard: what is waited for is said, where it is waited for")
+def _():
+    with Folder() as room:
+        for words, says in ((["list"], "the session is read from"), (["show"], "the session is read from"), (["write", room.file], "the session's text is read from"), (["desk"], "a request a line"), (["list", SAMPLE], "")):
+            end, keyboard = pty.openpty()
+            os.write(end, b"\x04" * 4)
+            status, _wrote, said = front(*words, stdin=keyboard)
+            assert status == 0 and (re.fullmatch(f"cabin: {says}.*; end with Ctrl-D\n", said) if says else not said), (words, said)
+            os.close(end)
+            os.close(keyboard)
+        room.holds(file=b"")
 
 
 @case("show: 0 for a whole session, 1 for a refused one, 2 for one that cannot be read")
@@ -263,12 +294,16 @@ def _():
         hold(front("write", "--replace", room.path / "pipe", given=TEXT), 2, b"", "no plain file")
         hold(front("write", "--replace", room.path, given=TEXT), 2, b"", "no plain file")
         hold(front("write", "--renew", room.file, given=TEXT), 2, b"", "usage")
+    with Folder() as room:
+        hold(front("write", "--replace", given=TEXT, cwd=room.path), 2, b"", "usage: ./cabin write \\[--replace\\] FILE")
+        room.holds()
 
 
 @case("write: a folder that is not there or cannot be written, an empty name, closed input: 2")
 def _():
     with Folder() as room:
-        hold(front("write", room.path / "none" / "file", given=TEXT), 2, b"", "no folder")
+        hold(front("write", room.path / "none" / "file", given=TEXT), 2, b"", "there is no folder .*/none: make it")
+        hold(front("write", SAMPLE / "file", given=TEXT), 2, b"", "session.bin is no folder: give another path")
         hold(front("write", "", given=TEXT), 2, b"", "empty")
         hold(front("write", room.file, closed=[0]), 2, b"", "standard input is closed")
         room.path.chmod(0o555)
@@ -359,8 +394,14 @@ def _():
         hold(front("replay", SAMPLE, "--settings", file, "1", "2"), 0, flown[1])
         hold(front("replay", SAMPLE, "--settings", file, "2", "1"), 1, b"refused 14\n", "nothing was flown")
         hold(front("replay", SAMPLE, "--settings", file, "1", "3"), 1, b"refused 23\n", "nothing was flown")
-        hold(front("replay", SAMPLE, "--settings", file, "3", "x"), 2, b"", "cannot be read")
+        hold(front("replay", SAMPLE, "--settings", file, "3", "x"), 2, b"", "'x', the moon's version behind --settings, cannot be read: give a whole number")
+        hold(front("replay", SAMPLE, "--settings", file, "1 2", "2"), 2, b"", "'1 2', the earth's version")
+        for words, says in (([], "the path of the settings"), ([file], "the earth's version"), ([file, "1"], "the moon's version")):
+            hold(front("replay", SAMPLE, "--settings", *words), 2, b"", f"{says} is missing behind --settings: give it as in '--settings SETTINGS 1 2'")
         hold(front("replay", SAMPLE, "--settings", room, "1", "2"), 2, b"", "cannot be read")
+        hold(front("replay", SAMPLE, "--settings", f"{room}/none", "1", "2"), 2, b"", "there is no file .*/none")
+        hold(front("replay", SAMPLE, "39860120000", "1e5"), 2, b"", "replay: '1e5' cannot be read as mu of the moon: give a decimal of at most 15 digits")
+        hold(front("replay", SAMPLE, "x1", "490277800"), 2, b"", "replay: 'x1' cannot be read as mu of the earth: give a decimal of at most 15 digits")
         hold(front("replay", SAMPLE, "--sets", file, "1", "2"), 2, b"", "usage")
         hold(front("replay", SAMPLE, "1"), 2, b"", "usage")
         file.write_bytes(file.read_bytes()[1:])
@@ -371,7 +412,7 @@ def _():
 def _():
     with tempfile.TemporaryDirectory() as room:
         file = pathlib.Path(room) / "settings"
-        hold(front("settings", file, "list"), 0, b"")
+        hold(front("settings", file, "list"), 0, b"", "settings: no such file: no version\n")
         hold(front("settings", file, "show", "1"), 1, b"refused 23\n", "as it was")
         hold(front("settings", file, "back", "1"), 1, b"refused 23\n", "as it was")
         assert not os.listdir(room)
@@ -408,6 +449,33 @@ def _():
             file.write_bytes(bytes_of)
             hold(front("settings", file, *words), 1, b"refused %d\n" % number, "docs/pages/settings.md")
             assert file.read_bytes() == bytes_of and os.listdir(room) == ["settings"], words
+
+
+@case("settings: what is refused gives 1 also where nothing can be written")
+def _():
+    with Folder() as room:
+        room.file.write_bytes(version(1, *EARTH)[0])
+        room.file.chmod(0o644)
+        for mode in (0o555, 0o111):
+            room.path.chmod(mode)
+            for words, number in ((["back", "9"], 23), (["store", "2", *map(bits, EARTH[1:])], 14), (["store", "0", *map(bits, (1.0, *EARTH[2:]))], 2)):
+                hold(front("settings", room.file, *words, nobody=True), 1, b"refused %d\n" % number, "as it was")
+            hold(store(room.file, *EARTH, nobody=True), 2, b"", "give a path where you may (read and )?write")
+        room.path.chmod(0o755)
+        room.holds(file=version(1, *EARTH)[0])
+        hold(front("settings", room.path / "none" / "settings", "back", "1"), 1, b"refused 23\n", "as it was")
+        hold(front("settings", room.path / "none" / "settings", "store", "2", *map(bits, EARTH[1:])), 1, b"refused 14\n", "as it was")
+
+
+@case("settings: a version that is stored and cannot be shown is told as stored, with 2")
+def _():
+    with Folder() as room, open("/dev/full", "wb") as full:
+        for number, got in ((1, lambda: store(room.file, *EARTH, stdout=full)), (2, lambda: front("settings", room.file, "back", "1", stdout=full))):
+            status, _wrote, said = got()
+            assert (status, said) == (2, f"cabin: version {number} was stored in {room.file}, so do not store it again: {NO_ROOM}"), said
+        room.holds(file=version(1, *EARTH)[0] + version(2, *EARTH)[0])
+        for words in (["list"], ["back", "9"]):
+            assert front("settings", room.file, *words, stdout=full)[::2] == (2, f"cabin: {NO_ROOM}"), words
 
 
 @case("settings: words that cannot be read give 2, say which, and leave every byte")
@@ -457,7 +525,11 @@ def _():
         file = room / "settings"
         hold(front("settings", room, "list"), 2, b"", "cannot be read")
         hold(front("settings", "", "list"), 2, b"", "name is empty")
-        hold(store(room / "none" / "settings", *EARTH), 2, b"", "no folder")
+        hold(store(room / "none" / "settings", *EARTH), 2, b"", "there is no folder .*/none: make it")
+        hold(store(SAMPLE / "settings", *EARTH), 2, b"", "session.bin is no folder: give another path")
+        (room / "lost").symlink_to("none/settings")
+        hold(store(room / "lost", *EARTH), 2, b"", "lost is a link to where no file can be")
+        (room / "lost").unlink()
         hold(front("settings", room / "none" / "settings", "list"), 0, b"")
         hold(store(file, *EARTH, limit=20), 2, b"", "File too large")
         assert not os.listdir(room)
@@ -541,17 +613,12 @@ def _():
 
 # ---- output that does not get through
 
-@case("a full device: 2 for list, watch, desk, help and replay, which stops there")
+@case("a full device: 2 for all that writes, said once and in the front's own words")
 def _():
     with open("/dev/full", "wb") as full:
-        hold(front("list", SAMPLE, stdout=full), 2, None, "No space left")
-        hold(front("list", stdout=full, given=REFUSED), 2, None, "No space left")
-        hold(front("watch", stdout=full, given=REFUSED), 2, None, "No space left")
-        hold(front("desk", stdout=full, given=b"root 2\n"), 2, None, "No space left")
-        hold(front("help", stdout=full), 2, None, "No space left")
-        flown = front("replay", ROOT / "samples" / "rendezvous.bin", stdout=full)
-        hold(flown, 2, None, "No space left")
-        assert flown[2].count("Broken pipe") <= 1, "it went on writing"
+        for words, given in ((["list", SAMPLE], b""), (["list"], REFUSED), (["show", SAMPLE], b""), (["watch"], REFUSED), (["desk"], b"root 2\n"), (["help"], b""), (["ready", "listing"], b""),
+                             (["why", "apsides", *"4294967296 4194304 0 0 0 24 0".split()], b""), (["replay", ROOT / "samples" / "rendezvous.bin"], b"")):
+            assert front(*words, stdout=full, given=given)[::2] == (2, f"cabin: {NO_ROOM}"), (words, front(*words, stdout=full, given=given))
 
 
 @case("closed output: 2 for list, watch, desk and help")

@@ -12,7 +12,7 @@ import re
 import sys
 import tempfile
 
-from edits import FUNCTION, ROOMS, Trials, proof_of, said_against
+from edits import FUNCTION, ROOMS, Trials, path_of, said_against
 from prover import JOBS, ROOT
 
 OTHERS = {" + ": [" - "], " - ": [" + "], " * ": [" + "], " / ": [" * "], " % ": [" / "], " <= ": [" < ", " >= "], " < ": [" <= ", " > "],
@@ -40,7 +40,7 @@ class Mutant:
         self.line = function.string.count("\n", 0, self.begin) + 1
         self.was = function.string.split("\n")[self.line - 1].strip()
         self.function = (file, function[1])
-        self.symbol = "::".join([crate, *proof_of(self.function).split("/")[1:]])
+        self.crate, self.symbol = crate, "::".join([crate, *path_of(self.function)])
 
 
 def chosen(crate, dice):
@@ -66,9 +66,10 @@ def check(trials, crate, mutants):
     """The mutants that compile, and what the prover said of the copy with all of them in it."""
     while True:
         with tempfile.TemporaryDirectory(dir=ROOMS) as room:
-            trials.copy(crate, pathlib.Path(room))
-            put(mutants, pathlib.Path(room))
-            _, said = trials.check(crate, pathlib.Path(room))
+            room = pathlib.Path(room)
+            trials.copy(room, crate)
+            put(mutants, room / crate)
+            _, said = trials.check(room, crate)
         if not mutants or re.search(r"^logic=", said, re.M):
             return mutants, said
         wrong = {(place[1], int(place[2])) for place in re.finditer(r"/(src/\S+?\.rt):(\d+):\d+: error", said)}
@@ -83,7 +84,7 @@ def refused(mutant, said):
     line = re.search(rf"^fn {mutant.symbol}: (.*)", said, re.M)[1]
     if line == "proved":
         return False
-    return True if "which " not in line or said_against(mutant.function, said) else None
+    return True if "which " not in line or said_against(mutant.crate, [mutant.function], said) else None
 
 
 def try_crate(trials, crate, seed):

@@ -2,15 +2,15 @@
 """night: runs every recorded session of a folder through the proved programs, files each result under the session's own
 local day, and reports. `./cabin night` starts it; docs/pages/night.md is its page.
 
-  ./cabin night FOLDER [--out RESULTS] [--settings FILE EARTH MOON] [--limit METRES] [--jobs N] [--patience SECONDS]
-                       [--status | --list | --one CABIN/NAME | --report]
-
-The programs' commands come in CABIN_REFLY and CABIN_LISTING, a word a line, mu by the settings in CABIN_MU."""
+`./cabin help night` has its options. From the front come the programs' commands in CABIN_REFLY and CABIN_LISTING, a word
+a line, and where the settings are used mu in CABIN_MU, the file and the two versions, a line each, in CABIN_SETTINGS."""
 import concurrent.futures
 import contextlib
+import errno
 import math
 import os
 import pathlib
+import re
 import signal
 import sys
 import time
@@ -18,11 +18,14 @@ import traceback
 
 sys.path.insert(0, str(pathlib.Path(__file__).resolve().parent))
 from night import page, report
-from night.runner import Runner, Stopped, looked_through
+from night.runner import Runner, Stopped, looked_through, shown
 from night.store import Store, Taken, put
 
-USAGE = ("usage: ./cabin night FOLDER [--out RESULTS] [--settings FILE EARTH MOON] [--limit METRES] [--jobs N] "
-         "[--patience SECONDS] [--status | --list | --one CABIN/NAME | --report]")
+REMEDIES = {  # what to do about results that cannot be written
+    **dict.fromkeys((errno.EACCES, errno.EPERM, errno.EROFS), "make it writable for you, or give other results by --out"),
+    **dict.fromkeys((errno.ENOTDIR, errno.EEXIST), "a file is where a folder must be: give other results by --out"),
+    errno.EISDIR: "a folder is where a file must be: move it away, or give other results by --out",
+}
 
 
 class Fault(Exception):
@@ -41,68 +44,97 @@ def show(line):
         while data:
             data = data[os.write(1, data):]
     except OSError as error:
-        raise Fault(f"standard output: {error.strerror}") from error
+        raise Fault(f"standard output could not be written: {error.strerror}") from error
 
 
 # ---- words of the command
 
+class Amount(float):
+    """A number of at least 0 that is shown as it was typed."""
+
+    def __new__(cls, word):
+        made = super().__new__(cls, word)
+        if not re.fullmatch(r"[0-9]+(\.[0-9]+)?([eE][-+]?[0-9]+)?", word) or not math.isfinite(made):
+            raise ValueError
+        made.word = word
+        return made
+
+    def __str__(self):
+        return self.word
+
+
+def duration(word):
+    if not 0 < Amount(word) <= 1_000_000:
+        raise ValueError
+    return Amount(word)
+
+
 def whole(word):
-    if not word.isascii() or not word.isdigit() or not 1 <= int(word) <= 1000:
+    if not re.fullmatch("[0-9]+", word) or not 1 <= int(word) <= 1000:
         raise ValueError
     return int(word)
 
 
-def amount(word):
-    value = float(word)
-    if not (math.isfinite(value) and value >= 0):
+def name(word):
+    if not word:
         raise ValueError
-    return value
+    return word
 
 
-def duration(word):
-    if not 0 < amount(word) <= 1_000_000:
-        raise ValueError
-    return amount(word)
-
-
-VALUED = {"--out": str, "--limit": amount, "--jobs": whole, "--patience": duration, "--one": str}
+VALUED = {  # how what stands behind an option is read, and what may stand there
+    "--out": (name, "the path of a folder"),
+    "--limit": (Amount, "metres, at least 0, as 100 or 2.5"),
+    "--jobs": (whole, "a whole number from 1 to 1000"),
+    "--patience": (duration, "seconds, over 0 and at most 1000000"),
+    "--one": (name, "CABIN/NAME of a session"),
+}
 WAYS = ("--status", "--list", "--one", "--report")
+
+
+def value(option, words):
+    """What stands behind an option, taken off the words."""
+    read, may = VALUED[option]
+    if not words:
+        raise Fault(f"nothing stands behind {option}: give {may}")
+    word = words.pop(0)
+    try:
+        return read(word)
+    except ValueError:
+        raise Fault(f"'{word}' cannot stand behind {option}: give {may}") from None
 
 
 def understood(words):
     """FOLDER and the options."""
-    given = {"--out": "results", "--limit": 100.0, "--jobs": 2, "--patience": 60.0}
-    folders, seen = [], set()
+    given = {"--out": "results", "--limit": Amount("100"), "--jobs": 2, "--patience": Amount("60")}
+    folders, seen = [], []
     words = list(words)
     while words:
         word = words.pop(0)
         if word in seen:
-            raise Fault(f"{word} stands there twice: {USAGE}")
-        if word in VALUED and words:
-            seen.add(word)
-            try:
-                given[word] = VALUED[word](words.pop(0))
-            except ValueError:
-                raise Fault(f"what stands behind {word} cannot be read: {USAGE}") from None
-        elif word in WAYS and word not in VALUED:
-            seen.add(word)
-        elif word.startswith("--"):
-            raise Fault(f"'{word}' cannot be read there: {USAGE}")
-        else:
+            raise Fault(f"{word} stands there twice: give it once")
+        if not word.startswith("--"):
             folders.append(word)
-    ways = [way for way in WAYS if way in seen]
-    if len(folders) != 1 or len(ways) > 1 or not given["--out"]:
-        raise Fault(USAGE)
+            continue
+        if word not in VALUED and word not in WAYS:
+            raise Fault(f"there is no option '{word}': './cabin help night' shows them all")
+        seen.append(word)
+        if word in VALUED:
+            given[word] = value(word, words)
+    ways = [word for word in seen if word in WAYS]
+    if len(folders) != 1:
+        raise Fault(f"{len(folders)} folders are given: give the one that has a folder for each cabin")
+    if len(ways) > 1:
+        raise Fault(f"{' and '.join(ways)} do not go together: give one of them")
     return folders[0], given, ways[0] if ways else "--run"
 
 
 def programs():
-    """The commands of the two programs, and mu."""
+    """The commands of the two programs, mu, and the settings that it is by."""
     try:
         refly, listing = (os.environ[name].split("\n") for name in ("CABIN_REFLY", "CABIN_LISTING"))
     except KeyError:
         raise Fault("start it as './cabin night FOLDER'") from None
-    return refly, listing, os.environ.get("CABIN_MU", "").split()
+    return refly, listing, os.environ.get("CABIN_MU", "").split(), os.environ.get("CABIN_SETTINGS", "").rsplit("\n", 2)
 
 
 # ---- how far it is
@@ -154,19 +186,22 @@ class Progress:
 
 class Night:
     def __init__(self, folder, given):
-        refly, listing, mu = programs()
+        refly, listing, mu, self.settings = programs()
         if not os.path.isdir(folder):
-            raise Fault(f"there is no folder {folder}: give the folder that has a folder for each cabin")
-        self.jobs, self.store, self.mu = given["--jobs"], Store(given["--out"]), mu
+            raise Fault((f"{folder} is no folder" if os.path.exists(folder) else f"there is no folder {folder}") + ": give the folder that has a folder for each cabin")
+        self.folder, self.jobs, self.store, self.mu = folder, given["--jobs"], Store(given["--out"]), mu
         try:
             self.runner = Runner(refly, listing, mu, given["--limit"], given["--patience"])
             self.found = looked_through(folder, given["--out"])
         except OSError as error:
-            raise Fault(f"{error.filename} cannot be read: {error.strerror}") from error
+            raise Fault(f"{error.filename} cannot be read: {error.strerror}: make it readable for you, and start it again") from error
 
     def terms(self):
-        mu = f"mu {self.mu[0]} and {self.mu[1]} by the settings" if self.mu else "the usual mu"
-        return f"limit {self.runner.limit:g} m, {mu}; days and times are the cabins' own"
+        mu = "the usual mu"
+        if self.mu:
+            file, earth, moon = map(shown, self.settings)
+            mu = f"mu {self.mu[0]} and {self.mu[1]} by versions {earth} and {moon} of the settings {file}"
+        return f"limit {self.runner.limit} m, {mu}; days and times are the cabins' own"
 
     def now(self, session):
         """A session's result, if it has one that is made of what is there now."""
@@ -192,11 +227,16 @@ class Night:
             results.update(self.run_all(left))
             return self.report(results)
 
+    def warn_of_none(self):
+        if not self.found.sessions:
+            inside = any(path.endswith(".bin") for path in self.found.strays)
+            say(f"no session {self.folder}/CABIN/NAME.bin was found" + (f": {self.folder} itself has .bin files, so perhaps the folder above it is meant" if inside else ""))
+
     def warn(self):
         if self.found.strays:
             say(f"{len(self.found.strays)} of what is in the folder are no sessions CABIN/NAME.bin and are left alone; the first is {ascii(self.found.strays[0])[1:-1]}")
-        for path in self.found.closed:
-            say(f"the cabin's folder {path} cannot be read: its sessions are not run")
+        for cabin in self.found.closed:
+            say(f"the folder of {cabin} cannot be read: its sessions are not run")
 
     def run_all(self, left):
         progress, results = Progress(self.store, len(left)), {}
@@ -213,24 +253,17 @@ class Night:
                 concurrent.futures.wait([one for one in waiting if not one.cancelled()], timeout=5)
         return results
 
-    def gone(self):
-        """The results of sessions that are no longer in the folder."""
-        there = {(session.cabin, session.name) for session in self.found.sessions}
-        loaded = (self.store.load(*one) for one in self.store.names() if one not in there)
-        return [result for result in loaded if result]
-
     def report(self, results):
-        """Writes the reports, and says how it stands with the sessions of the folder."""
+        """Writes the reports of the sessions of the folder, and says how it stands with them."""
         self.store.sweep()
-        left = len(self.found.sessions) - len(results)
-        every, cabins = [*results.values(), *self.gone()], self.found.cabins
-        put(self.store.top / "report.txt", report.as_text(every, cabins, left, self.terms()).encode())
-        put(self.store.top / "report.html", page.as_html(every, cabins, left, self.terms(), self.store, self.runner.limit, self.mu).encode())
-        put(self.store.top / "report.json", report.as_json(every, cabins).encode())
-        show(f"{report.headline(every, cabins, left)}: {self.store.top / 'report.html'}")
-        if self.found.closed:
-            raise Fault(f"{len(self.found.closed)} cabins could not be looked into: make their folders readable and start it again")
-        passed = not left and all(one["verdict"] == "passed" for one in results.values())
+        told = report.Told([*results.values()], self.found.cabins, self.found.closed, len(self.found.sessions) - len(results), self.terms())
+        put(self.store.top / "report.txt", report.as_text(told).encode())
+        put(self.store.top / "report.html", page.as_html(told, self.store, self.runner.limit, self.mu).encode())
+        put(self.store.top / "report.json", report.as_json(told).encode())
+        show(f"{report.headline(told)}: {self.store.top / 'report.html'}")
+        if told.closed:
+            raise Fault(f"{report.many(len(told.closed), 'cabin')} could not be looked into: make every cabin's folder readable, and start it again")
+        passed = not told.left and all(one["verdict"] == "passed" for one in told.results)
         return 0 if passed else 1
 
     def remake(self):
@@ -254,9 +287,9 @@ class Night:
         return 0 if result["verdict"] == "passed" else 1
 
     def status(self):
-        results, _ = self.sorted_out()
+        results, left = self.sorted_out()
         got, told = report.counts(results.values()), self.store.progress()
-        words = f"{len(results)} done, {len(self.found.sessions) - len(results)} left, {got['failed']} failed, {got['broken']} broken"
+        words = f"{len(self.found.sessions) - len(left)} done, {len(left)} left, {got['failed']} failed, {got['broken']} broken"
         if not self.store.is_taken():
             words += ", no run is going"
         elif told and told["left"] is not None:
@@ -275,6 +308,7 @@ def main(words):
     try:
         folder, given, way = understood(words)
         night = Night(folder, given)
+        night.warn_of_none()
         ways = {"--run": night.run, "--list": night.list_left, "--report": night.remake, "--status": night.status, "--one": lambda: night.one(given["--one"])}
         return ways[way]()
     except Fault as fault:
@@ -284,7 +318,8 @@ def main(words):
     except Stopped:
         say("it was stopped; start it again and it goes on where it was")
     except OSError as error:
-        say(f"{error.filename or 'the results'}: {error.strerror}: nothing is lost; make room or give other results by --out, and start it again")
+        remedy = REMEDIES.get(error.errno, "nothing is lost; make room or give other results by --out, and start it again")
+        say(f"{error.filename or 'the results'}: {error.strerror}: {remedy}")
     except Exception:  # whatever was not foreseen: 1 would say that a session did not pass
         traceback.print_exc()
     return 2

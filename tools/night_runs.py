@@ -316,7 +316,7 @@ def check_page(results):
     for name, one in wanted.items():
         row = got[name]
         assert row[1:7] == ["none" if one["day"] is None else str(one["day"]), one["name"], one["verdict"], one["reason"], str(one["records"]), str(one["marks"])], row
-        assert row[7] == "" if one["worst"] is None else abs(float(row[7]) - one["worst"]) <= 1e-6, row
+        assert row[7] == "" if one["worst"] is None else row[7] == "large" if one["worst"] >= 2.0**43 else abs(float(row[7]) - one["worst"]) <= 1e-6, row
     order = [row[3] for row in rows]
     assert order == sorted(order, key=["failed", "broken", "passed"].index), order
     assert page.pictures >= sum(row[6] != "0" for row in rows[:1000]), "a session with marks has no picture"
@@ -325,8 +325,11 @@ def check_page(results):
 @case("all passed: 0; a folder with no session: 0, and empty reports; a cabin with none is shown")
 def _():
     with room() as (folder, results):
-        hold(front(folder, "--out", results), 0, "^0 cabins, 0 sessions")
+        hold(front(folder, "--out", results), 0, "^0 cabins, 0 sessions", f"no session {folder}/CABIN/NAME.bin was found\n")
         made(folder, {"a/x": session(1, 0), "b/y": session(2, 0)})
+        hold(night(folder / "a", "--out", results), 0, "^0 cabins, 0 sessions", "was found: .* itself has .bin files, so perhaps the folder above it is meant")
+        for way in ("--list", "--status", "--report"):
+            hold(night(folder / "a", "--out", results, way), 0, "", "no session .* was found")
         (folder / "c").mkdir()
         hold(front(folder, "--out", results), 0, "^3 cabins, 2 sessions: 2 passed, 0 failed, 0 broken", "2 of 2 done")
         assert told(results)["cabins"][2] == {"cabin": "c", "passed": 0, "failed": 0, "broken": 0}
@@ -342,6 +345,9 @@ def _():
         hold(night(folder, "--out", results, "--limit", repr(worst)), 0)
         hold(night(folder, "--out", results, "--limit", repr(math.nextafter(worst, 0))), 1)
         assert re.fullmatch(r"record 4 off -?\d+\.\d{6}", verdicts(results)["a/x"]["reason"])
+        for limit in ("0100.50", "1234567.5", "1e2"):
+            hold(night(folder, "--out", results, "--limit", limit), 0)
+            assert f"\nlimit {limit} m, the usual mu;" in (results / "report.txt").read_text() and f"limit {limit} m" in (results / "report.html").read_text(), limit
         hold(night(folder, "--out", results, "--limit", "0"), 1)
         assert re.fullmatch(r"record 3 off -?\d+\.\d{6}", verdicts(results)["a/x"]["reason"])
 
@@ -356,25 +362,41 @@ def _():
         got = front(folder, "--out", results, "--settings", path, 1, 2)
         lines = subprocess.run([ROOT / "cabin", "replay", folder / "a" / "x.bin", "--settings", path, "1", "2"], capture_output=True, text=True).stdout
         assert (results / "a" / "day-1" / "x.txt").read_text().startswith(lines) and len(lines) > 100, got
+        for name in ("report.txt", "report.html"):
+            assert f"limit 100 m, mu x42228FB253800000 and x41BD34CE80000000 by versions 1 and 2 of the settings {path};" in (results / name).read_text(), name
         hold(front(folder, "--out", results, "--settings", path, 1, 3), 2, "^$", "refused 23")
         hold(front(folder, "--out", results, "--settings", path, 2, 1), 2, "^$", "refused 14")
-        hold(front(folder, "--out", results, "--settings", path, 1), 2, "^$", "version of each")
-        hold(front(folder, "--out", results, "--settings", folder.parent / "none", 1, 2), 2, "^$", "cannot be read")
+        hold(front(folder, "--out", results, "--settings"), 2, "^$", "the path of the settings is missing behind --settings")
+        hold(front(folder, "--out", results, "--settings", path), 2, "^$", "the earth's version is missing")
+        hold(front(folder, "--out", results, "--settings", path, 1), 2, "^$", "the moon's version is missing")
+        hold(front(folder, "--settings", path, 1, "--out", results), 2, "^$", "'--out', the moon's version behind --settings, cannot be read: give a whole number")
+        hold(front(folder, "--settings", path, 1, 2, "--settings", path, 1, 2), 2, "^$", "--settings stands there twice")
+        hold(front(folder, "--out", results, "--settings", folder.parent / "none", 1, 2), 2, "^$", "there is no file")
+        hold(front(folder, "--out", results, "--settings", folder.parent, 1, 2), 2, "^$", "cannot be read")
 
 
 @case("words that cannot be read, no such folder, results that cannot be written: 2")
 def _():
     with room() as (folder, results):
         made(folder, {"a/x": session(1, 0)})
-        for words in ((), (folder, folder), (folder, "--limit"), (folder, "--limit", "x"), (folder, "--limit", "-1"), (folder, "--limit", "nan"), (folder, "--jobs", "0"), (folder, "--patience", "0"), (folder, "--lists"), (folder, "--list", "--status"), (folder, "--out", ""), (folder, "--jobs", "1", "--jobs", "1")):
-            hold(night(*words, "--out", results) if "--out" not in words else night(*words), 2, "^$", "usage")
+        limit, jobs, patience = "--limit: give metres, at least 0, as 100", "--jobs: give a whole number from 1 to 1000", "--patience: give seconds, over 0 and at most 1000000"
+        for words, says in (((), "0 folders"), ((folder, folder), "2 folders"), ((folder, "--limit"), f"nothing stands behind {limit}"), *(((folder, "--limit", word), f"'{word}' cannot stand behind {limit}") for word in ("x", "-1", "nan", "inf", "1_0", " 1", "", "1e999")),
+                            *(((folder, "--jobs", word), f"'{word}' cannot stand behind {jobs}") for word in ("0", "1001", "2.5", "-1")), *(((folder, "--patience", word), f"'{word}' cannot stand behind {patience}") for word in ("0", "1000001")),
+                            ((folder, "--lists"), "there is no option '--lists'"), ((folder, "--list", "--status"), "--list and --status do not go together"), ((folder, "--one", ""), "give CABIN/NAME"), ((folder, "--jobs", "1", "--jobs", "1"), "--jobs stands there twice")):
+            hold(night("--out", results, *words), 2, "^$", says)
+        hold(night(folder, "--out", ""), 2, "^$", "give the path of a folder")
         hold(night(folder / "none", "--out", results), 2, "^$", "there is no folder")
-        hold(night(folder, "--out", folder / "a" / "x.bin" / "results"), 2, "^$", "Not a directory")
+        hold(night(folder, "--out", folder / "a" / "x.bin" / "results"), 2, "^$", "Not a directory: a file is where a folder must be: give other results")
+        hold(night(folder, "--out", folder / "a" / "x.bin"), 2, "^$", "Not a directory: a file is where a folder must be: give other results")
         hold(front(folder / "none", "--out", results), 2, "^$", "there is no folder")
+        hold(night(folder / "a" / "x.bin", "--out", results), 2, "^$", "x.bin is no folder: give the folder that has a folder for each cabin")
         assert not results.exists()
+        (results / "report.txt").mkdir(parents=True)
+        hold(night(folder, "--out", results), 2, "^$", "Is a directory: a folder is where a file must be: move it away")
+        shutil.rmtree(results)
         with open("/dev/full", "w") as full:
             run = subprocess.run([sys.executable, NIGHT, folder, "--out", results], stdout=full, stderr=subprocess.PIPE, text=True, env=environment())
-        assert run.returncode == 2 and "standard output" in run.stderr, run
+        assert run.returncode == 2 and "standard output could not be written: No space left" in run.stderr, run
 
 
 @case("numbers at their ends: each gets its picture or none, and the page stands")
@@ -391,6 +413,10 @@ def _():
         made(folder, {"a/far": b"".join(far), "a/still": record(STATE, 0, 0, 0, *[0.0] * 6) + record(STATE, 1, 1, 2**53, 3e6, 0.0, 0.0, 0.0, 1e-300, 0.0), "a/mark": session(1, 0, None, (), record(MARK, 0, 0, DAY, 1.7e308, 0.0) + record(MARK, 0, 0, DAY, -1.7e308, 0.0))})
         hold(night(folder, "--out", results), 1, "2 passed, 1 failed")
         check_page(results)
+        lines = (results / "a" / "day-1" / "mark.txt").read_text()
+        shown = (results / "report.txt").read_text(), (results / "report.html").read_text()
+        assert verdicts(results)["a/mark"]["reason"] == "record 3 off large" and " off large bits " in lines, lines
+        assert re.search("  large  ", shown[0]) and "worst (in the circle) large m" in shown[1] and not any(re.search(r"\d{16}\.", text) for text in shown)
 
 
 @case("names: newlines and bytes that are no text are run and reported; a results folder inside the folder is no cabin")
@@ -429,9 +455,43 @@ def _():
             file.write("# another program\n")
         hold(night(folder, "--out", results, refly=counter.words), 0)
         assert counter.starts() == 4
-        (folder / "a" / "3.bin").unlink()
-        hold(night(folder, "--out", results, refly=counter.words), 0, "4 passed")
-        assert counter.starts() == 0 and texts(results) == before, "a session that has gone keeps its result"
+
+
+@case("the reports and the status are of the sessions of the folder, by what is asked for; results of others stay and are in none of them")
+def _():
+    with room() as (folder, results):
+        counter = Counter(folder.parent)
+        made(folder, {"a/good": session(1, 0), "b/off": session(1, 0, None, (150.0,)), "c/off": session(2, 0, None, (150.0,))})
+        (folder / "c").rename(folder.parent / "c")
+        hold(night(folder, "--out", results, "--limit", "1000", refly=counter.words), 0, "^2 cabins, 2 sessions: 2 passed, 0 failed, 0 broken: ")
+        (folder / "b" / "off.bin").unlink()
+        (folder / "b").rmdir()
+        (folder.parent / "c").rename(folder / "c")
+        counter.starts()
+        results_of_b = {name: data for name, data in texts(results).items() if name.startswith("b/")}
+        for words, status, counted in (((), 1, "1 passed, 1 failed"), (("--limit", "1000"), 0, "2 passed, 0 failed"), (("--report", "--limit", "1000"), 0, "2 passed, 0 failed"), (("--report",), 1, "0 passed, 0 failed, 0 broken; 2 not run yet")):
+            hold(night(folder, "--out", results, *words, refly=counter.words), status, f"^2 cabins, [02] sessions: {counted}")
+            assert {one["cabin"] for one in told(results)["cabins"]} == {"a", "c"} and "b/off" not in verdicts(results)
+            assert not re.search(r"^b\b", (results / "report.txt").read_text(), re.M) and "b/off" not in (results / "report.html").read_text()
+        assert results_of_b and results_of_b.items() <= texts(results).items(), "the result of a session that has gone is altered"
+        shutil.rmtree(folder / "c")
+        hold(night(folder, "--out", results, refly=counter.words), 0, "^1 cabin, 1 session: 1 passed, 0 failed, 0 broken: ")
+        made(folder, {"b/off": session(1, 0, None, (150.0,))})
+        counter.starts()
+        hold(night(folder, "--out", results, "--limit", "1000", refly=counter.words), 0, "^2 cabins, 2 sessions: 2 passed")
+        assert counter.starts() == 1, "what comes back is not run again"
+
+
+@case("left is what a run would do, to --status and to --list: a broken session too")
+def _():
+    with room() as (folder, results):
+        made(folder, {"a/good": session(1, 0), "a/off": session(1, 0, None, (150.0,)), "a/new": session(1, 0, None, (1.0,))})
+        (folder / "a" / "new.bin").rename(folder.parent / "new.bin")
+        (folder / "a" / "broken.bin").mkdir()
+        hold(night(folder, "--out", results), 1, "1 passed, 1 failed, 1 broken")
+        (folder.parent / "new.bin").rename(folder / "a" / "new.bin")
+        hold(night(folder, "--out", results, "--status"), 0, "^2 done, 2 left, 1 failed, 1 broken, no run is going\n$")
+        hold(night(folder, "--out", results, "--list"), 0, "^a/broken\na/new\n$")
 
 
 @case("half a result, half a note, a result without its note: run again")
@@ -673,7 +733,15 @@ def _():
         assert verdicts(results)["a/secret"]["reason"] == "it cannot be read: Permission denied"
         (folder / "b").chmod(0)
         ran = run()
-        hold((ran.returncode, ran.stdout, ran.stderr), 2, "1 broken", "b cannot be read: its sessions are not run")
+        hold((ran.returncode, ran.stdout, ran.stderr), 2, "2 sessions: 1 passed, 0 failed, 1 broken; 1 cabin could not be looked into: ", "b cannot be read: its sessions are not run\n(.*\n)*cabin: 1 cabin could not be looked into: make")
+        text, page = ((results / name).read_text() for name in ("report.txt", "report.html"))
+        for words in ("; 1 cabin could not be looked into", "could not be looked into: b"):
+            assert words in text and words in re.sub("<.*?>", "", page), words
+        assert [list(one) for one in told(results)["cabins"]] == [["cabin", "passed", "failed", "broken"]] * 2 and list(told(results)) == ["sessions", "cabins"]
+        check_page(results)
+        results.chmod(0o555)
+        ran = run()
+        hold((ran.returncode, ran.stdout, ran.stderr), 2, "^$", "Permission denied: make it writable for you, or give other results by --out")
 
 
 # ---- one by one

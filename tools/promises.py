@@ -1,10 +1,14 @@
 #!/usr/bin/env python3
 """Every routine that others call keeps its promise on paper: it has no `requires`, it has an `ensures`, and
-docs/PROMISES.md has a row for it, whose definition and must-fail edits are there. Each law of that page stands in the
-proofs that its row names. Prints each that does not, and ends with 1 if there is one."""
+docs/PROMISES.md has a row for it, whose definition and must-fail edits are there. An edit alters what the routine runs,
+every routine has one but those that the page excepts, and every edit has a row. Each law of that page stands in the proofs
+that its row names. Prints each that does not, and ends with 1 if there is one."""
+import functools
 import pathlib
 import re
 import sys
+
+from edits import FUNCTION, Edit
 
 ROOT = pathlib.Path(__file__).resolve().parent.parent
 PAGE = ROOT / "docs" / "PROMISES.md"
@@ -43,6 +47,10 @@ def names_cited(page):
         yield cells[0].strip(" `"), re.findall(r"`([^`]+)`", cells[2]), re.findall(r"`([^`]+)`", cells[-1])
 
 
+def edit_of(crate, name):
+    return ROOT / "crates" / crate / "must-fail" / f"{name}.edit"
+
+
 def faults_of_names(page):
     """What the page cites and the crates do not have."""
     written = "".join(path.read_text() for path in ROOT.glob("crates/*/specs/*.antt"))
@@ -51,11 +59,49 @@ def faults_of_names(page):
             if not re.search(rf"(?:^| ){re.escape(name)}(?: |$)", written, re.M):
                 yield f"docs/PROMISES.md: {routine} cites the definition {name}, which no specs/ has"
         for name in edits:
-            if not (ROOT / "crates" / routine.split("::")[0] / "must-fail" / f"{name}.edit").exists():
+            if not edit_of(routine.split("::")[0], name).exists():
                 yield f"docs/PROMISES.md: {routine} cites the edit {name}, which its crate does not have"
     for crate, name in re.findall(r"`(\w+)/(\w+)`", page):
-        if not (ROOT / "crates" / crate / "must-fail" / f"{name}.edit").exists():
+        if not edit_of(crate, name).exists():
             yield f"docs/PROMISES.md cites the edit {crate}/{name}, which is not there"
+
+
+@functools.cache
+def bodies(crate):
+    """{name: the text of the functions of this name} of a crate."""
+    found = {}
+    for source in sorted((ROOT / "crates" / crate / "src").rglob("*.rt")):
+        for function in FUNCTION.finditer(source.read_text()):
+            found[function[1]] = found.get(function[1], "") + function[2]
+    return found
+
+
+def runs(crate, routine):
+    """The functions of its crate that a routine runs, by their names."""
+    seen, left = set(), {routine}
+    while left:
+        seen |= left
+        left = {word for name in left for word in re.findall(r"\w+", bodies(crate).get(name, ""))} & bodies(crate).keys() - seen
+    return seen
+
+
+def faults_of_edits(page):
+    """Rows without an edit, edits of what the row's routine does not run, and edits without a row."""
+    excepted = re.findall(r"`(\w+::\w+)`", re.search(r"every routine below has one but (.*)", page)[1])
+    cited = set(re.findall(r"`(\w+)/(\w+)`", page))
+    for routine, _, edits in names_cited(page):
+        crate, name = routine.split("::")
+        cited |= {(crate, edit) for edit in edits}
+        if bool(edits) == (routine in excepted):
+            yield f"docs/PROMISES.md: {routine} has no edit, or is excepted and has one"
+        for edit in (edit for edit in edits if edit_of(crate, edit).exists()):
+            altered = {function for _, function in Edit(edit_of(crate, edit)).functions}
+            if altered and not altered & runs(crate, name):
+                yield f"docs/PROMISES.md: {routine} cites the edit {edit}, which alters {', '.join(altered)}, and it does not run that"
+    for path in sorted(ROOT.glob("crates/*/must-fail/*.edit")):
+        crate = path.parent.parent
+        if (crate / "src" / "lib.rt").exists() and (crate.name, path.stem) not in cited:
+            yield f"{path.relative_to(ROOT)} has no row in docs/PROMISES.md"
 
 
 def faults_of_laws(page):
@@ -76,7 +122,7 @@ def faults_of_laws(page):
 def main():
     page = PAGE.read_text()
     rows = re.findall(r"^\| `(\w+)::(\w+)`", page, re.M)
-    faults, seen = [*faults_of_names(page), *faults_of_laws(page)], set()
+    faults, seen = [*faults_of_names(page), *faults_of_edits(page), *faults_of_laws(page)], set()
     for crate in sorted((ROOT / "crates").iterdir()):
         if not (crate / "src" / "lib.rt").exists():
             continue

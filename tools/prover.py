@@ -21,13 +21,24 @@ class Prover:
         """What a crate, or a library of the kit, is proved and written as."""
         return (ROOT / "target" if name in self.over else self.own) / "rlib" / f"{name}.rlib"
 
-    def ask(self, verb, crate, folder, *more):
-        """The prover's status, and what it said of the crate that lies in a folder, over what the crate of this name stands on."""
-        root = next(path for path in (folder / "src" / "lib.rt", folder / "src" / "main.rt") if path.exists())
-        words = [self.own / "bin" / "rattle", verb, "--crate-name", crate, root]
-        for name in ["std", *self.over.get(crate, [])]:
+    def beneath(self, name):
+        """The crates that a crate stands on, and those that they stand on."""
+        return set().union(*({one} | self.beneath(one) for one in self.over.get(name, [])))
+
+    def ask(self, verb, crate, folder, *more, beside=()):
+        """The prover's status, and what it said of the crate that lies in a folder, over what the crate of this name stands on;
+        and of others, pairs of name and folder, that are checked in the same run."""
+        words = [self.own / "bin" / "rattle", verb, "--crate-name", crate, self.root(folder)]
+        for name, where in beside:
+            words += ["--lib", f"{name}:{','.join(['std', *self.over[name]])}={self.root(where)}"]
+        for name in sorted({"std"}.union(*(self.over.get(one, []) for one in (crate, *dict(beside))))):
             words += ["--extern", f"{name}={self.library(name)}"]
         words += ["-L", f"dependency={ROOT / 'target' / 'rlib'}", "-L", f"dependency={self.own / 'rlib'}"]
         words += ["--antt-project", self.home / "logic" / "antt-project.json", "--logic-built", self.own / "logic-built", *more]
         ran = subprocess.run(words, capture_output=True, text=True)
         return ran.returncode, ran.stdout + ran.stderr
+
+    @staticmethod
+    def root(folder):
+        """The file that a crate's others are found from."""
+        return next(path for path in (folder / "src" / "lib.rt", folder / "src" / "main.rt") if path.exists())

@@ -19,14 +19,24 @@ def defines(text, name):
 
 
 def faults_of_forms():
-    """What a row's last cell names and crates/ does not have there: a file, what a file has, a routine of a crate."""
-    for row in re.findall(r"^\| .* \| (.*) \|$", (ROOT / "docs" / "FORMS.md").read_text(), re.M):
+    """What a row's last cell names and crates/ does not have there: a file, what a file has, a routine of a crate. Where that
+    cell is the specs/ of crates, each definition that the row names is one of them and has a law."""
+    for shown, row in re.findall(r"^\| .* \| (.*) \| (.*) \|$", (ROOT / "docs" / "FORMS.md").read_text(), re.M):
         named = [(path, name) for path, names in re.findall(r"(crates/[\w/.]*\w)((?:, `\w+`)*)", row) for name in re.findall(r"\w+", names) or [""]]
         named += [(f"crates/{crate}/src/lib.rt", name) for crate, name in re.findall(r"`(\w+)::(\w+)`", row)]
         for path, name in named:
             text = (ROOT / path).read_text() if (ROOT / path).is_file() else ""
             if not re.search(rf"\b(?:fn|const|enum|struct) {name}\b" if name else ".", text):
                 yield f"docs/FORMS.md: {path} is not there, or does not have {name}"
+        if of := re.match(r"specs/ of ((?:\w+, )*\w+)", row):
+            written = {part: text_under(of[1].split(", "), part) for part in ("specs", "proofs")}
+            for name in re.findall(r"`(\w+)`", shown):
+                if not re.search(rf"^\S+ pub {name} :", written["specs"], re.M) or name not in written["proofs"]:
+                    yield f"docs/FORMS.md: {name} is no definition of {of[1]}, or no law has it"
+
+
+def text_under(crates, part):
+    return "".join(path.read_text() for crate in crates for path in sorted((ROOT / "crates" / crate / part).rglob("*.antt")))
 
 
 def faults_of_picture():

@@ -43,25 +43,31 @@ proofs() {
     else
         ended FAILED "proofs, which gave no count"
     fi
-    printf -- '-- %d s\n\n== programs and the library made ready\n' $((SECONDS - began))
+    printf -- '-- %d s\n\n== programs, the library and the second program made ready\n' $((SECONDS - began))
     began=$SECONDS
     wait "$fetching" || true
     for main in crates/*/src/main.rt; do
         ./cabin ready "$(basename "${main%/src/main.rt}")" >/dev/null || true
     done
     mkdir -p target/library && ./cabin library target/library || true
+    make -s -C second || true
     printf -- '-- %d s\n' $((SECONDS - began))
     export CABIN_BUILD=no
 }
 
-# The library's parts go on beside the comparisons, since each of the two keeps little more than one processor busy. What they
-# print is kept for its place.
-library_parts() {
-    part "the library: its header" bash tools/library.sh header
-    part "the library: the example" bash tools/library.sh example
-    part "the library: requests by a C driver" bash tools/library.sh requests
-    part "the library: sessions by a C driver" bash tools/library.sh records
-    part "the library: settings by a C driver" bash tools/library.sh versions
+# The programs against the second program. They go on beside the other parts, since each of the two keeps little more than one
+# processor busy; what they print is kept for its place.
+comparisons() {
+    part "stored requests" bash tools/compare.sh stored
+    part "fresh requests" bash tools/compare.sh requests
+    part "solves stopped and gone on with" bash tools/compare.sh stops
+    part "the height behind the burn" bash tools/compare.sh heights
+    part "fresh sessions" bash tools/compare.sh sessions
+    part "fresh sessions as text" bash tools/compare.sh texts
+    part "fresh sessions in parts" bash tools/compare.sh parts
+    part "settings" bash tools/compare.sh settings
+    part "solves graded by settings" bash tools/compare.sh grades
+    part "sessions flown again" bash tools/compare.sh flights
 }
 
 # How many parts ended so.
@@ -93,6 +99,8 @@ part "promises" python3 tools/promises.py
 part "rules" python3 tools/rules.py
 part "table of sines" python3 tools/sines.py --check
 proofs
+comparisons >"$keep/beside.log" 2>&1 </dev/null &
+beside=$!
 part "pages" python3 tools/pages.py
 part "published cases" python3 tools/published.py
 part "sample" python3 tools/make_sample.py --check
@@ -104,18 +112,11 @@ part "the night run" python3 tools/night_runs.py --with nothing
 for one in chromium parallel systemd-analyze mount; do
     part "the night run, with $one" python3 tools/night_runs.py --with "$one"
 done
-part "stored requests" bash tools/compare.sh stored
-library_parts >"$keep/beside.log" 2>&1 </dev/null &
-beside=$!
-part "fresh requests" bash tools/compare.sh requests
-part "solves stopped and gone on with" bash tools/compare.sh stops
-part "the height behind the burn" bash tools/compare.sh heights
-part "fresh sessions" bash tools/compare.sh sessions
-part "fresh sessions as text" bash tools/compare.sh texts
-part "fresh sessions in parts" bash tools/compare.sh parts
-part "settings" bash tools/compare.sh settings
-part "solves graded by settings" bash tools/compare.sh grades
-part "sessions flown again" bash tools/compare.sh flights
+part "the library: its header" bash tools/library.sh header
+part "the library: the example" bash tools/library.sh example
+part "the library: requests by a C driver" bash tools/library.sh requests
+part "the library: sessions by a C driver" bash tools/library.sh records
+part "the library: settings by a C driver" bash tools/library.sh versions
 wait "$beside"
 cat "$keep/beside.log"
 whole=yes

@@ -4,7 +4,7 @@ import math
 import re
 
 from . import plots
-from .report import COLUMNS, by_cabin, cells, clock, counts, days_of, failed_first, headline, many, places
+from .report import COLUMNS, below, by_cabin, cells, clock, counts, days_of, failed_first, headline, many, places
 from .verdict import Broken, parsed, worst_of
 
 PLOTTED = 1000  # sessions with pictures, what failed first; more would make the page too large for a phone
@@ -71,10 +71,10 @@ def day_row(name, own, names, kind=""):
     return f'<tr{kind}><th scope="row">{name}</th>{"".join(tally(own.get(name, [])) for name in names)}</tr>'
 
 
-def days_part(results, cabins):
+def days_part(told):
     """A row a local day and a column a cabin, above them the counts of all days."""
-    every = dict(by_cabin(results, cabins))
-    rows = [day_row("none" if day is None else day, own, every) for day, own in days_of(results)]
+    every = dict(by_cabin(told))
+    rows = [day_row("none" if day is None else day, own, every) for day, own in days_of(told.results)]
     top = head(("day", *map(html.escape, every)))
     table = lambda part: f'<div class="scroll"><table>{top}<tbody>{"".join(part)}</tbody></table></div>'
     older = f"<details><summary>{len(rows) - DAYS_OPEN} days before</summary>{table(rows[DAYS_OPEN:])}</details>" if len(rows) > DAYS_OPEN else ""
@@ -113,7 +113,7 @@ def figure(drawn, words, kind=""):
 
 def off_figure(got, marks, limit):
     worst, plot = worst_of(marks), plots.off_plot(marks, got.events, limit)
-    words = [f"Computed minus recorded range in m, by the cabin's clock: {many(len(marks), 'mark')}, limit {limit:g} m",
+    words = [f"Computed minus recorded range in m, by the cabin's clock: {many(len(marks), 'mark')}, limit {limit} m",
              f"worst (in the circle) {places(worst.off)} m, record {worst.record}, day {worst.day}, {clock(worst.cs)}", *(words for what, words in EVENTS.items() if f'class="{what}"' in plot)]
     return figure(plot, "; ".join(words) + ".")
 
@@ -144,19 +144,21 @@ def session_part(k, one, store, limit, mu):
 
 
 def coloured(words):
-    """The headline, each verdict that came up in its colour."""
-    return re.sub(r"\b([1-9]\d*) (passed|failed|broken)\b", r'<span class="\2">\1 \2</span>', html.escape(words))
+    """The headline, each verdict that came up in its colour, and cabins that are not in it as broken ones."""
+    words = re.sub(r"\b([1-9]\d*) (passed|failed|broken)\b", r'<span class="\2">\1 \2</span>', html.escape(words))
+    return re.sub(r"; (\d+ cabins? could .*)", r'; <span class="broken">\1</span>', words)
 
 
-def as_html(results, cabins, left, terms, store, limit, mu):
-    ordered, mu, words = failed_first(results), plots.mu_of(mu), headline(results, cabins, left)
+def as_html(told, store, limit, mu):
+    ordered, mu, words = failed_first(told.results), plots.mu_of(mu), headline(told)
+    lines = "".join(f'<p class="small">{html.escape(line)}</p>' for line in below(told))
     parts = [session_part(k, one, store, limit, mu) for k, one in enumerate(ordered[:PLOTTED])]
     more = f"<p>The other {len(ordered) - PLOTTED} have no pictures here; <code>./cabin replay</code> shows their lines.</p>" if len(ordered) > PLOTTED else ""
     return (
         '<!DOCTYPE html>\n<html lang="en"><head><meta charset="utf-8"><meta name="viewport" content="width=device-width, initial-scale=1">'
         f'<title>Night run: {html.escape(words)}</title><style>{STYLE}</style></head><body>\n'
-        f'<h1>Night run</h1><p class="big">{coloured(words)}</p><p class="small">{html.escape(terms)}</p>'
+        f'<h1>Night run</h1><p class="big">{coloured(words)}</p>{lines}'
         '<nav><a href="#days">Days</a><a href="#sessions">Sessions</a><a href="#pictures">Pictures</a></nav>\n'
-        f"{days_part(results, cabins)}\n{sessions_part(ordered, limit)}\n"
+        f"{days_part(told)}\n{sessions_part(ordered, limit)}\n"
         f'<section id="pictures"><h2>Pictures</h2>{"".join(parts)}{more}</section>\n</body></html>\n'
     )

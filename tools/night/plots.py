@@ -136,7 +136,7 @@ def off_plot(marks, events, limit):
     for off in frame.limits:
         sheet.stroke("limit", LEFT, frame.up(off), WIDTH - RIGHT, frame.up(off))
     if frame.limits:
-        sheet.label(WIDTH - RIGHT, TOP - 10, f"- - limit {limit:g} m", "end", "red")
+        sheet.label(WIDTH - RIGHT, TOP - 10, f"- - limit {limit} m", "end", "red")
     for event in frame.events if len(frame.events) <= EVENTS else ():
         sheet.draw(event.what, SIGNS[event.what].format(x=frame.across(event.time()), y=HEIGHT - FOOT + 28))
     sheet.draw("marks", dots(frame, [mark for mark in marks if abs(mark.off) <= limit], dash))

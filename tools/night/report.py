@@ -2,11 +2,22 @@
 import collections
 import decimal
 import json
+from typing import NamedTuple
 
 VERDICTS = ("failed", "broken", "passed")  # in the order in which they are shown
 WIDE = decimal.Context(prec=400)
 IN_JSON = ("cabin", "name", "day", "verdict", "reason", "records", "marks", "worst")
 COLUMNS = ("cabin", "day", "session", "verdict", "reason", "records", "marks", "worst m", "local time")
+LARGE = 2.0 ** 43  # metres that the lines of a replay show as `large`
+
+
+class Told(NamedTuple):
+    """What the reports are made of."""
+    results: list
+    cabins: list
+    closed: list  # cabins that could not be looked into
+    left: int  # sessions without a result
+    terms: str
 
 
 def by_day(day):
@@ -33,15 +44,14 @@ def counted(results):
     return ", ".join(f"{got[verdict]} {verdict}" for verdict in ("passed", "failed", "broken"))
 
 
-def by_cabin(results, cabins):
+def by_cabin(told):
     """(cabin, its results) for every cabin, those with no session too."""
-    names = sorted({*cabins, *(one["cabin"] for one in results)})
-    return [(name, [one for one in results if one["cabin"] == name]) for name in names]
+    return [(name, [one for one in told.results if one["cabin"] == name]) for name in sorted(set(told.cabins))]
 
 
-def as_json(results, cabins):
-    sessions = [{field: one[field] for field in IN_JSON} for one in in_order(results)]
-    summed = [{"cabin": name, **{verdict: counts(own)[verdict] for verdict in ("passed", "failed", "broken")}} for name, own in by_cabin(results, cabins)]
+def as_json(told):
+    sessions = [{field: one[field] for field in IN_JSON} for one in in_order(told.results)]
+    summed = [{"cabin": name, **{verdict: counts(own)[verdict] for verdict in ("passed", "failed", "broken")}} for name, own in by_cabin(told)]
     return json.dumps({"sessions": sessions, "cabins": summed}, indent=1, ensure_ascii=False, allow_nan=False) + "\n"
 
 
@@ -55,8 +65,8 @@ def clock(cs, short=False):
 
 
 def places(metres):
-    """Six places, cut and not rounded, as in the lines."""
-    return str(decimal.Decimal(metres).quantize(decimal.Decimal("0.000001"), decimal.ROUND_DOWN, WIDE))
+    """Six places, cut and not rounded, or `large`, as in the lines."""
+    return "large" if abs(metres) >= LARGE else str(decimal.Decimal(metres).quantize(decimal.Decimal("0.000001"), decimal.ROUND_DOWN, WIDE))
 
 
 def local_time(one):
@@ -77,9 +87,15 @@ def many(count, word):
     return f"{count} {word}" + ("" if count == 1 else "s")
 
 
-def headline(results, cabins, left):
-    text = f"{many(len(by_cabin(results, cabins)), 'cabin')}, {many(len(results), 'session')}: {counted(results)}"
-    return text + (f"; {left} not run yet" if left else "")
+def headline(told):
+    text = f"{many(len(by_cabin(told)), 'cabin')}, {many(len(told.results), 'session')}: {counted(told.results)}"
+    text += f"; {told.left} not run yet" if told.left else ""
+    return text + (f"; {many(len(told.closed), 'cabin')} could not be looked into" if told.closed else "")
+
+
+def below(told):
+    """The lines below the headline."""
+    return [f"could not be looked into: {', '.join(told.closed)}"] * bool(told.closed) + [told.terms]
 
 
 def days_of(results):
@@ -102,10 +118,10 @@ def table(results):
     return lined_up([COLUMNS, *map(cells, failed_first(results))])
 
 
-def as_text(results, cabins, left, terms):
-    lines = [headline(results, cabins, left), terms, ""]
-    lines += lined_up([("cabin", "passed", "failed", "broken"), *((name, *(str(counts(own)[v]) for v in ("passed", "failed", "broken"))) for name, own in by_cabin(results, cabins))])
-    lines += ["", "sessions, what failed first:", *table(results), "", "which cabins were run on which local day:"]
-    rows = [("none" if day is None else str(day), cabin, counted(own)) for day, own_of in days_of(results) for cabin, own in sorted(own_of.items())]
+def as_text(told):
+    lines = [headline(told), *below(told), ""]
+    lines += lined_up([("cabin", "passed", "failed", "broken"), *((name, *(str(counts(own)[v]) for v in ("passed", "failed", "broken"))) for name, own in by_cabin(told))])
+    lines += ["", "sessions, what failed first:", *table(told.results), "", "which cabins were run on which local day:"]
+    rows = [("none" if day is None else str(day), cabin, counted(own)) for day, own_of in days_of(told.results) for cabin, own in sorted(own_of.items())]
     lines += lined_up([("day", "cabin", "sessions"), *rows])
     return "".join(line + "\n" for line in lines)

@@ -29,7 +29,7 @@ class Folder(NamedTuple):
     cabins: list
     sessions: list
     strays: list  # what is no session
-    closed: list  # cabins that cannot be looked into
+    closed: list  # of the cabins, those that cannot be looked into
 
 
 def shown(name):
@@ -52,7 +52,7 @@ def looked_through(folder, results):
         try:
             inside = entries(cabin.path)
         except OSError:
-            found.closed.append(cabin.path)
+            found.closed.append(shown(cabin.name))
             continue
         for one in inside:
             if one.name.endswith(".bin"):

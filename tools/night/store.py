@@ -118,10 +118,6 @@ class Store:
         except (OSError, ValueError, TypeError):
             return None
 
-    def names(self):
-        """Cabin and name of all that have a note."""
-        return sorted((path.parent.name, path.stem) for path in self.notes.glob("*/*.key"))
-
     def progress(self, told=None):
         """How far the run that is going has come: kept for who asks from another terminal."""
         path = self.notes / "run"

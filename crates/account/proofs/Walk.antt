@@ -18,7 +18,7 @@ use Rattle.replay.specs.Replay as S
 use Rattle.replay.specs.Machine.{afterOf}
 use Rattle.account.specs.declared.Next.{Next}
 use Rattle.account.specs.declared.Next.the-variants.{Heading, At, First, Second, Done}
-use Rattle.account.specs.Account.{isDone, stepFor, stepOf, textIn, lastIn, recordThen, recordsIn}
+use Rattle.account.specs.Account.{isDone, stepFor, stepOf, textIn, accountOf, lastIn, recordThen, recordsIn}
 
 -- ---- no more steps than this are left, and each leaves fewer
 
@@ -109,3 +109,41 @@ more-steps (suc f) mu s Second p h =
     let t = stepOf mu s Second p in
     ap (λ (l : List ℕ). t .line ++ l) (more-steps f mu s (t .next) (t .replay) (omega (arith, fewer mu s Second p refl)))
 more-steps (suc f) mu s Done p h = done-text (suc (suc f)) mu s p ∙ sym (done-text (suc f) mu s p)
+
+-- ---- told from the heading on, one line after another until nothing is left, the lines are the account
+
+settled : (d : ℕ) (mu : Mu) (s : List ℕ) (next : Next) (p : Replay) → textIn (d + need s next) mu s next p ≡ textIn (need s next) mu s next p
+settled zero mu s next p = ap (λ (k : ℕ). textIn k mu s next p) (none (need s next))
+  where
+    none : (n : ℕ) → 0 + n ≡ n
+    none n = omega arith
+settled (suc d) mu s next p =
+    ap (λ (k : ℕ). textIn k mu s next p) (one (need s next))
+    ∙ more-steps (d + need s next) mu s next p (omega arith)
+    ∙ settled d mu s next p
+  where
+    one : (n : ℕ) → suc d + n ≡ suc (d + n)
+    one n = omega arith
+
+pub line-by-line : (mu : Mu) (s : List ℕ) (next : Next) (p : Replay) → isDone next ≡ false
+    → textIn (need s next) mu s next p
+    ≡ stepOf mu s next p .line ++ textIn (need s (stepOf mu s next p .next)) mu s (stepOf mu s next p .next) (stepOf mu s next p .replay)
+unfolding textIn
+line-by-line mu s next p h =
+    let t = stepOf mu s next p in
+    let d = need s next - suc (need s (t .next)) in
+    ap (λ (k : ℕ). textIn k mu s next p) (split (need s next) (need s (t .next)) (fewer mu s next p h))
+    ∙ first (d + need s (t .next))
+    ∙ ap (λ (l : List ℕ). t .line ++ l) (settled d mu s (t .next) (t .replay))
+  where
+    split : (m n : ℕ) → n < m → m ≡ suc (m - suc n + n)
+    split m n h = omega arith
+
+    first : (f : ℕ) → textIn (suc f) mu s next p ≡ stepOf mu s next p .line ++ textIn f mu s (stepOf mu s next p .next) (stepOf mu s next p .replay)
+    first f = refl
+
+pub nothing-left : (mu : Mu) (s : List ℕ) (p : Replay) → textIn (need s Done) mu s Done p ≡ []
+nothing-left mu s p = done-text 0 mu s p
+
+pub account-is : (mu : Mu) (s : List ℕ) → accountOf mu s ≡ textIn (need s Heading) mu s Heading S.nobody
+account-is mu s = refl

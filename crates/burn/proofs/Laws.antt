@@ -58,7 +58,7 @@ use Rattle.burn.specs.declared.Brought.{Brought}
 use Rattle.burn.specs.declared.Brought.the-variants as B
 use Rattle.burn.specs.declared.Burn.{Burn}
 use Rattle.burn.specs.declared.Burn.the-variants.{Closed, Open, Refused}
-use Rattle.burn.specs.Burn.{keptOf, movedOf, movedFor, movedBy, atTime, inLineOf, clearOf, clearedOf, changedOf, spedOf, bound, besideOf, coellipticOf, fromPoint, fromPassive, fromActive, radiusAllowed, burnOf}
+use Rattle.burn.specs.Burn.{keptOf, movedOf, movedFor, movedBy, atTime, inLineOf, clearOf, clearedOf, changedOf, spedOf, bound, besideOf, coellipticOf, fromPoint, fromPassive, fromActive, radiusAllowed, burnOf, burnNumber}
 
 -- ---- a difference of two finite numbers is no NaN
 
@@ -378,3 +378,19 @@ only-low k =
 
 pub always-low : (k : Centre) (b : Burn) → TooLow k b → b ≡ Refused 28
 always-low k b t = t .1 .1 .0 ∙ low-refused k (t .0) (t .1 .0) (t .1 .1 .1)
+
+-- ---- 14, 22 and 25 in this order, each in its case and no other, ahead of the advances
+
+pub burn-number : (k : Centre) (active : State) (ta : ℤ) (passive : State) (tp t2 t3 : ℤ)
+    → burnNumber (burnOf k active ta passive tp t2 t3)
+    ≡ cond (ltb 1 (k .body)) 14
+    (cond (radiusAllowed (k .radius)) (cond (atLeast t2 t3 60000) (burnNumber (fromActive k (atTime (k .mu) active ta t2) (atTime (k .mu) passive tp t2))) 25) 22)
+unfolding burnOf burnNumber
+burn-number k active ta passive tp t2 t3 =
+    go (ltb 1 (k .body)) (radiusAllowed (k .radius)) (atLeast t2 t3 60000) (fromActive k (atTime (k .mu) active ta t2) (atTime (k .mu) passive tp t2))
+  where
+    go : (a b c : Bool) (x : Burn) → burnNumber (cond a (Refused 14) (cond b (cond c x (Refused 25)) (Refused 22))) ≡ cond a 14 (cond b (cond c (burnNumber x) 25) 22)
+    go true b c x = refl
+    go false false c x = refl
+    go false true true x = refl
+    go false true false x = refl

@@ -56,10 +56,7 @@ timeOf o x z c s = (o .c1 ⊗ (z ⊗ c) ⊕ x ⊗ (o .c2 ⊗ (z ⊗ s) ⊕ o .r1
 abbrev pub rangeTest : ℕ → Name → Float → Limit → Entry
 rangeTest number name amount limit = entry number name Whole amount limit
 
--- −50 ≤ ξ ≤ 40; and the first of the two that a ξ outside fails
-abbrev pub xiTests : Float → List Entry
-xiTests xi = rangeTest 7 Xi xi (AtLeast leastXi) ∷ rangeTest 7 Xi xi (AtMost mostXi) ∷ []
-
+-- −50 ≤ ξ ≤ 40: the first of the two that a ξ outside fails
 unfoldable pub outsideOf : Float → Entry
 outsideOf xi = cond (leastXi ≤ᶠ xi) (rangeTest 7 Xi xi (AtMost mostXi)) (rangeTest 7 Xi xi (AtLeast leastXi))
 

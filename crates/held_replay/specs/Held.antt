@@ -3,8 +3,8 @@ use Prim.Native.Nat.{ℕ}
 use mathlib.Core.Bool.{Bool, cond, _||_}
 use mathlib.Core.List.{List, [], _∷_}
 use lib.Dec.{ltb, eqb}
-use lib.ListN.{getD}
-use lib.Ieee.{Float, nan}
+use lib.ListN.{getD, drop}
+use lib.Ieee.{Float}
 use Rattle.real.specs.F64.{f0}
 use Rattle.field.specs.Bytes.{bitsOf, signedOf}
 use Rattle.vector.specs.declared.State.{State}
@@ -38,9 +38,9 @@ bodyFrom n = cond (eqb n 0) 0 1
 unfoldable pub vehicleFrom : ℕ → ℕ → ℕ → State → Vehicle
 vehicleFrom set body time s = cond (eqb set 0) Unset (Set (record { body = bodyFrom body; time = signedOf time; state = s }))
 
--- the second state of a lent array
+-- the second state of a lent array: the first of what stands behind six numbers
 abbrev pub secondIn : List Float → State
-secondIn d = record { rx = getD d 6 nan; ry = getD d 7 nan; rz = getD d 8 nan; vx = getD d 9 nan; vy = getD d 10 nan; vz = getD d 11 nan }
+secondIn d = stateIn (drop 6 d)
 
 -- ---- both: the case of the last step, which is not read, then vehicle 0 and vehicle 1
 

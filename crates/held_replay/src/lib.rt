@@ -1,13 +1,14 @@
 // The two vehicles of a replay in lent arrays, read and put there again.
+ghost use Prim.Native.Nat.{_≤_};
 ghost use mathlib.Core.Path.{_≡_};
 ghost use mathlib.Core.List.{[], _∷_};
+ghost use lib.ListN.{take};
 ghost use Rattle.field.specs.Bytes.{bitsOf};
 ghost use Rattle.lent.specs.Given.{putIn};
 ghost use Rattle.held_replay.specs.Held.{setIn, bodyIn, vehicleTime, stateHeld, bodyFrom, vehicleFrom, secondIn};
 ghost use Rattle.held_replay.specs.Held.{replayFrom, heldWholes, heldNumbers, heldWrong};
+use field::bits_of;
 use flight::Flight;
-use lent::bits_of;
-use lent::number_at;
 use lent::put_numbers;
 use lent::put_wholes;
 use lent::state_in;
@@ -16,24 +17,14 @@ use replay::Replay;
 use replay::Vehicle;
 use vector::State;
 
-// The second state of a lent array.
+// The second state of a lent array: the first of what stands behind six numbers.
 fn second_in(s: &[f64]) -> State
     ensures { λ r. ⌜ r ≡ secondIn (now (s .entry)) ⌝ }
 {
-    let rx = number_at(s, 6);
-    let ry = number_at(s, 7);
-    let rz = number_at(s, 8);
-    let vx = number_at(s, 9);
-    let vy = number_at(s, 10);
-    let vz = number_at(s, 11);
-    State {
-        rx,
-        ry,
-        rz,
-        vx,
-        vy,
-        vz,
+    if s.len() < 6 {
+        return state_in(&s[..0]);
     }
+    state_in(&s[6..])
 }
 
 fn body_from(n: u64) -> u8
@@ -119,34 +110,10 @@ fn state_held(v: Vehicle) -> State
     }
 }
 
-// The states of both.
-pub fn put_states(states: &mut [f64], p: Replay)
-    ensures { λ _. ⌜ now (states .exit) ≡ putIn (heldNumbers p []) (now (states .entry)) ⌝ }
-{
-    let v0 = p.v0;
-    let v1 = p.v1;
-    let a = state_held(v0);
-    let b = state_held(v1);
-    let xs = [
-        a.rx,
-        a.ry,
-        a.rz,
-        a.vx,
-        a.vy,
-        a.vz,
-        b.rx,
-        b.ry,
-        b.rz,
-        b.vx,
-        b.vy,
-        b.vz,
-    ];
-    put_numbers(states, &xs);
-}
-
-// And behind them by how much a mark is off.
-pub fn put_marked(states: &mut [f64], p: Replay, off: f64)
-    ensures { λ _. ⌜ now (states .exit) ≡ putIn (heldNumbers p (off ∷ [])) (now (states .entry)) ⌝ }
+// The first n of: the states of both, and behind them by how much a mark is off.
+fn put_first(states: &mut [f64], p: Replay, off: f64, n: usize)
+    requires { ⌜ n ≤ 13 ⌝ }
+    ensures { λ _. ⌜ now (states .exit) ≡ putIn (take n (heldNumbers p (off ∷ []))) (now (states .entry)) ⌝ }
 {
     let v0 = p.v0;
     let v1 = p.v1;
@@ -167,7 +134,21 @@ pub fn put_marked(states: &mut [f64], p: Replay, off: f64)
         b.vz,
         off,
     ];
-    put_numbers(states, &xs);
+    put_numbers(states, &xs[..n]);
+}
+
+// The states of both.
+pub fn put_states(states: &mut [f64], p: Replay)
+    ensures { λ _. ⌜ now (states .exit) ≡ putIn (heldNumbers p []) (now (states .entry)) ⌝ }
+{
+    put_first(states, p, 0.0, 12);
+}
+
+// And behind them by how much a mark is off.
+pub fn put_marked(states: &mut [f64], p: Replay, off: f64)
+    ensures { λ _. ⌜ now (states .exit) ≡ putIn (heldNumbers p (off ∷ [])) (now (states .entry)) ⌝ }
+{
+    put_first(states, p, off, 13);
 }
 
 // The case, and what is held of both beside their states.

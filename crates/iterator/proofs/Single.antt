@@ -192,40 +192,11 @@ module _ (judge : ℤ → Judgement) (asked : Float) (told : (n : ℤ) → Told 
   pub to-sound : (l : ℕ) (s : Bracket) → Sound asked s → Sound asked (runTo judge asked l s)
   to-sound l s h = to-keeps judge asked (Sound asked) next-sound l s h
 
--- ---- the trial of a run on a sound bracket: its next point, or none left at neighbours; so never a refusal
-next-trial-is : {asked : Float} {s : Bracket} → Sound asked s
-    → nextTrialOf asked (s .lo) (s .hi) (s .below) (s .above) (s .count + 1) ≡ cond (more s) (Point (nextPoint asked s)) NoneLeft
-unfolding nextTrialOf
-next-trial-is {asked} {s} h = simp (in-grid-is h)
-
--- and the single trial's answer is the same
+-- ---- the single trial on a sound bracket of a run: its next point, or none left at neighbours; so never a refusal
 pub trial-is : {asked : Float} {s : Bracket} → Sound asked s
-    → singleTrialOf asked (s .lo) (s .hi) (s .below) (s .above) (s .count + 1) ≡ nextTrialOf asked (s .lo) (s .hi) (s .below) (s .above) (s .count + 1)
-unfolding singleTrialOf
+    → singleTrialOf asked (s .lo) (s .hi) (s .below) (s .above) (s .count + 1) ≡ cond (more s) (Point (nextPoint asked s)) NoneLeft
+unfolding singleTrialOf nextTrialOf
 trial-is {asked} {s} h = simp (finite-is h, sound-is h)
-
--- the same, from what it answers
-module _ {asked : Float} {s : Bracket} (h : Sound asked s) where
-  pub at-point : (n : ℤ) → nextTrialOf asked (s .lo) (s .hi) (s .below) (s .above) (s .count + 1) ≡ Point n → (1 < widthOf (s .lo) (s .hi)) × (n ≡ nextPoint asked s)
-  at-point n e = go (more s) refl (sym e ∙ next-trial-is h)
-    where
-      go : (t : Bool) → more s ≡ t → Point n ≡ cond t (Point (nextPoint asked s)) NoneLeft → (1 < widthOf (s .lo) (s .hi)) × (n ≡ nextPoint asked s)
-      go true t q = (ltb-true 1 (widthOf (s .lo) (s .hi)) t, cc)
-      go false t q = let z : _≡_ {A = ℕ} 0 1 = cc in absurd (zero-one z)
-
-  pub at-none : nextTrialOf asked (s .lo) (s .hi) (s .below) (s .above) (s .count + 1) ≡ NoneLeft → widthOf (s .lo) (s .hi) ≤ 1
-  at-none e = go (more s) refl (sym e ∙ next-trial-is h)
-    where
-      go : (t : Bool) → more s ≡ t → NoneLeft ≡ cond t (Point (nextPoint asked s)) NoneLeft → widthOf (s .lo) (s .hi) ≤ 1
-      go true t q = let z : _≡_ {A = ℕ} 0 1 = cc in absurd (zero-one z)
-      go false t q = ltb-false 1 (widthOf (s .lo) (s .hi)) t
-
-  pub never-refused : (n : ℕ) → nextTrialOf asked (s .lo) (s .hi) (s .below) (s .above) (s .count + 1) ≡ Refused n → ⊥
-  never-refused n e = go (more s) (sym e ∙ next-trial-is h)
-    where
-      go : (t : Bool) → Refused n ≡ cond t (Point (nextPoint asked s)) NoneLeft → ⊥
-      go true q = let z : _≡_ {A = ℕ} 0 1 = cc in zero-one z
-      go false q = let z : _≡_ {A = ℕ} 0 1 = cc in zero-one z
 
 -- and a trial is left exactly where the run has more
 pub more-is : {asked : Float} {s : Bracket} → Sound asked s → moreLeft (s .lo) (s .hi) ≡ more s
@@ -235,22 +206,12 @@ more-is h = simp (in-grid-is h)
 -- ---- the single trial's number: 1 for a time that is not finite, then 6 unless the ends are sound
 pub trial-number : (asked : Float) (lo hi : ℤ) (below above : Judgement) (k : ℕ)
     → triedNumber (singleTrialOf asked lo hi below above k) ≡ cond (not (allTimesFinite asked below above)) 1 (cond (not (soundOf asked lo hi below above)) 6 0)
-unfolding singleTrialOf triedNumber nextTrialOf soundOf
-trial-number asked lo hi below above k = go (allTimesFinite asked below above) (soundOf asked lo hi below above) refl
+unfolding singleTrialOf triedNumber nextTrialOf
+trial-number asked lo hi below above k = go (allTimesFinite asked below above) (soundOf asked lo hi below above) (ltb 1 (widthOf lo hi))
   where
-    grid : soundOf asked lo hi below above ≡ true → inGrid lo hi ≡ true
-    grid e = and-0 (inGrid lo hi) _ e
-
-    made : (g w : Bool) → g ≡ true → triedNumber (cond (not g) (Refused 6) (cond w (Point (pointOf asked lo hi below above k)) NoneLeft)) ≡ 0
-    made true true e = refl
-    made true false e = refl
-    made false w e = absurd (true≢false (sym e))
-
-    next : inGrid lo hi ≡ true → triedNumber (nextTrialOf asked lo hi below above k) ≡ 0
-    next e = made (inGrid lo hi) (ltb 1 (widthOf lo hi)) e
-
-    go : (f s : Bool) → soundOf asked lo hi below above ≡ s
-        → triedNumber (cond (not f) (Refused 1) (cond (not s) (Refused 6) (nextTrialOf asked lo hi below above k))) ≡ cond (not f) 1 (cond (not s) 6 0)
-    go false s e = refl
-    go true false e = refl
-    go true true e = next (grid e)
+    go : (f s w : Bool)
+        → triedNumber (cond (not f) (Refused 1) (cond (not s) (Refused 6) (cond w (Point (pointOf asked lo hi below above k)) NoneLeft))) ≡ cond (not f) 1 (cond (not s) 6 0)
+    go false s w = refl
+    go true false w = refl
+    go true true true = refl
+    go true true false = refl

@@ -234,14 +234,11 @@ fn sound(asked: f64, lo: i64, hi: i64, below: Judgement, above: Judgement) -> bo
     ends_agree(asked, below, above)
 }
 
-// The k-th trial, with the judgements taken as they are: its point, or at hi - lo = 1 that none is left. Only the ends are
-// tested, for the grid.
+// The k-th trial between ends on the grid: its point, or at hi - lo = 1 that none is left.
 fn next_trial(asked: f64, lo: i64, hi: i64, below: Judgement, above: Judgement, k: u64) -> Tried
+    requires { ⌜ Grid lo hi ⌝ }
     ensures { λ r. ⌜ r ≡ nextTrialOf asked lo hi below above k ⌝ }
 {
-    if !in_grid(lo, hi) {
-        return Tried::Refused(6);
-    }
     if 1 < width(lo, hi) {
         return Tried::Point(place(asked, lo, hi, below, above, k));
     }

@@ -6,7 +6,6 @@ pub use putting::put_wholes;
 ghost use mathlib.Core.Path.{_≡_};
 ghost use lib.ListN.{getD};
 ghost use lib.Ieee.{nan};
-ghost use Rattle.field.specs.Bytes.{bitsOf};
 ghost use Rattle.lent.specs.Given.{vectorIn, stateIn};
 use vector::State;
 use vector::Vector;
@@ -57,11 +56,4 @@ pub fn state_in(s: &[f64]) -> State
         vy,
         vz,
     }
-}
-
-// The 64 bits of a signed number.
-pub fn bits_of(z: i64) -> u64
-    ensures { λ r. ⌜ r ≡ bitsOf z ⌝ }
-{
-    field::bits_of(z)
 }

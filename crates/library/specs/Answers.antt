@@ -32,14 +32,14 @@ oneIn a d = roomFor (leb 1 (length d)) (oneTold a)
 
 -- ---- a transfer time: the time; too long is 7, too short 8
 
-unfoldable pub timeTold : TransferTime → Told
-timeTold (T.Time t) = answer (t .time ∷ []) []
-timeTold T.TooLong = refused 7
-timeTold T.TooShort = refused 8
-timeTold (T.Refused n) = refused n
+unfoldable pub transferTimeTold : TransferTime → Told
+transferTimeTold (T.Time t) = answer (t .time ∷ []) []
+transferTimeTold T.TooLong = refused 7
+transferTimeTold T.TooShort = refused 8
+transferTimeTold (T.Refused n) = refused n
 
-abbrev pub timeIn : Float → List Float → Float → Float → List Float → Told
-timeIn mu s sin cos d = roomFor (leb 6 (length s) && leb 1 (length d)) (timeTold (thetaOf mu (stateIn s) sin cos))
+abbrev pub transferTimeIn : Float → List Float → Float → Float → List Float → Told
+transferTimeIn mu s sin cos d = roomFor (leb 6 (length s) && leb 1 (length d)) (transferTimeTold (thetaOf mu (stateIn s) sin cos))
 
 -- ---- apsides: closed is case 0, near and far; open is case 1, near alone
 

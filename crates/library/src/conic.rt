@@ -1,6 +1,6 @@
 // The conic routines.
 ghost use Rattle.lent.specs.Given.{Given, GivenNumbers};
-ghost use Rattle.library.specs.Answers.{timeTold, timeIn, apsidesTold, apsidesIn};
+ghost use Rattle.library.specs.Answers.{transferTimeTold, transferTimeIn, apsidesTold, apsidesIn};
 ghost use Prim.Native.Nat.{_≤_};
 ghost use lib.ListN.{length};
 use apsides::Apsides;
@@ -11,7 +11,7 @@ use theta::TransferTime;
 
 fn give_time(a: TransferTime, out: &mut [f64]) -> u32
     requires { ⌜ 1 ≤ length (now out) ⌝ }
-    ensures { λ r. ⌜ GivenNumbers (timeTold a) (now (out .entry)) (now (out .exit)) r ⌝ }
+    ensures { λ r. ⌜ GivenNumbers (transferTimeTold a) (now (out .entry)) (now (out .exit)) r ⌝ }
 {
     match a {
         TransferTime::Time(t) => {
@@ -33,7 +33,7 @@ pub extern "C" fn cabin_transfer_time(
     cos: f64,
     out: &mut [f64],
 ) -> u32
-    ensures { λ r. ⌜ GivenNumbers (timeIn mu (now (state .entry)) sin cos (now (out .entry))) (now (out .entry)) (now (out .exit)) r ⌝ }
+    ensures { λ r. ⌜ GivenNumbers (transferTimeIn mu (now (state .entry)) sin cos (now (out .entry))) (now (out .entry)) (now (out .exit)) r ⌝ }
 {
     if state.len() < 6 {
         return 15;

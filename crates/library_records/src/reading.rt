@@ -8,14 +8,14 @@ ghost use Rattle.session.specs.Layout.{kindIn, vehicleIn, byteIn, timeIn, numbe
 ghost use Rattle.session.specs.declared.Reading.the-variants as R;
 ghost use Rattle.lent.specs.Given.{Given, putIn};
 ghost use Rattle.library_records.specs.Records.{readTold, readIn};
-use lent::bits_of;
+use field::bits_of;
 use lent::put_numbers;
 use lent::put_wholes;
 use session::Place;
 use session::Reading;
 use session::Record;
 
-// A record's fields ahead of its numbers, the time as its 64 bits.
+// A record's fields ahead of its numbers, the time.
 pub struct Head {
     pub kind: u64,
     pub vehicle: u8,

@@ -5,7 +5,7 @@ ghost use lib.ListN.{length};
 ghost use Rattle.stream.specs.declared.Step.the-variants as P;
 ghost use Rattle.lent.specs.Given.{Given, GivenWholes};
 ghost use Rattle.library_stream.specs.Parts.{standingTold, stepTold, takeIn, roomAfter};
-use lent::bits_of;
+use field::bits_of;
 use lent::put_wholes;
 use library_records::head_of;
 use library_records::offset_of;

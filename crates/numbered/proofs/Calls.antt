@@ -23,7 +23,7 @@ use Rattle.table.specs.Tests.{firstFailing}
 use Rattle.table.proofs.Laws.{NotRow, not-row}
 use Rattle.iterator.specs.declared.Tried.the-variants as P
 use Rattle.iterator.specs.Rule.{widthOf, pointOf}
-use Rattle.iterator.specs.Single.{allTimesFinite, inGrid, soundOf, nextTrialOf, singleTrialOf}
+use Rattle.iterator.specs.Single.{allTimesFinite, soundOf, nextTrialOf, singleTrialOf}
 use Rattle.theta.specs.Theta.{sweepOf, thetaTests}
 use Rattle.theta.specs.Theta as Th
 use Rattle.apsides.specs.declared.Apsides.the-variants as A
@@ -47,7 +47,7 @@ use Rattle.settings.specs.History.{lookUp}
 use Rattle.graded.specs.Graded.{fractionsOf, gradedAdvanced, gradedTransferred, advanceBy, transferBy}
 use Rattle.cases.specs.Cases.{judgementFrom, wayFrom, beginningFrom, runMisjudged}
 use Rattle.lent.specs.Given.{Told, refused, vectorIn, stateIn}
-use Rattle.library.specs.Answers.{oneTold, oneIn, timeTold, timeIn, apsidesTold, apsidesIn, wheelTold, wheelIn, sightTold, sightIn}
+use Rattle.library.specs.Answers.{oneTold, oneIn, transferTimeTold, transferTimeIn, apsidesTold, apsidesIn, wheelTold, wheelIn, sightTold, sightIn}
 use Rattle.library_solves.specs.Solves.{triedTold, trialTold, trialIn, advancedTold, advanceIn, transferredTold, transferTold, transferIn}
 use Rattle.library_advances.specs.Advances.{judgedFor, advancedWithinTold, advanceWithinIn, advanceByIn}
 use Rattle.library_transfers.specs.Transfers.{transferredWithinTold, wayFor, transferWithinIn, transferByIn}
@@ -95,14 +95,14 @@ s-answers xi d = one (sAnswer xi) d (of-series (not (finite xi)) (not (inRange x
 
 -- ---- a transfer time, and the apsides: the first test that fails
 
-time-by : (p : Test) (s : State) (x : Reached) → NotRow 0 p → ZeroAnswers (timeTold (Th.answered p (Th.transferTimeBy s x)))
-unfolding timeTold Th.answered Th.transferTimeBy
+time-by : (p : Test) (s : State) (x : Reached) → NotRow 0 p → ZeroAnswers (transferTimeTold (Th.answered p (Th.transferTimeBy s x)))
+unfolding transferTimeTold Th.answered Th.transferTimeBy
 time-by (Failed f) s x h = refusal (f .number) h
 time-by Passed s (R.Time t) h = λ e. refl
 time-by Passed s (R.Under e) h = refusal 8 (λ z. omega arith)
 time-by Passed s (R.Over e) h = refusal 7 (λ z. omega arith)
 
-pub time-answers : (mu : Float) (s : List Float) (sin cos : Float) (d : List Float) → ZeroAnswers (timeIn mu s sin cos d)
+pub time-answers : (mu : Float) (s : List Float) (sin cos : Float) (d : List Float) → ZeroAnswers (transferTimeIn mu s sin cos d)
 time-answers mu s sin cos d =
     in-room (leb 6 (length s) && leb 1 (length d)) _
     (time-by _ (stateIn s) _ (not-row 0 (thetaTests mu (stateIn s) sin cos (sweepOf mu (stateIn s) sin cos)) refl))
@@ -147,13 +147,12 @@ sight-answers a p e h v d =
 
 -- ---- a trial
 
-trial-by : (a b c d : Bool) (n : ℤ) → ZeroAnswers (triedTold (cond a (P.Refused 1) (cond b (P.Refused 6) (cond c (P.Refused 6) (cond d (P.Point n) P.NoneLeft)))))
+trial-by : (a b c : Bool) (n : ℤ) → ZeroAnswers (triedTold (cond a (P.Refused 1) (cond b (P.Refused 6) (cond c (P.Point n) P.NoneLeft))))
 unfolding triedTold
-trial-by true b c d n = refusal 1 (λ e. omega arith)
-trial-by false true c d n = refusal 6 (λ e. omega arith)
-trial-by false false true d n = refusal 6 (λ e. omega arith)
-trial-by false false false true n = λ e. refl
-trial-by false false false false n = λ e. refl
+trial-by true b c n = refusal 1 (λ e. omega arith)
+trial-by false true c n = refusal 6 (λ e. omega arith)
+trial-by false false true n = λ e. refl
+trial-by false false false n = λ e. refl
 
 pub trial-answers : (asked : Float) (lo hi : ℤ) (j : ℕ) (s : Float) (k : ℕ) (t : Float) (n : ℕ) (w : List ℕ) → ZeroAnswers (trialIn asked lo hi j s k t n w)
 unfolding trialTold singleTrialOf nextTrialOf
@@ -163,7 +162,7 @@ trial-answers asked lo hi j s k t n w = in-room (leb 2 (length w)) _ (judged (le
     judged true =
         let below = judgementFrom j s in
         let above = judgementFrom k t in
-        trial-by (not (allTimesFinite asked below above)) (not (soundOf asked lo hi below above)) (not (inGrid lo hi)) (ltb 1 (widthOf lo hi)) (pointOf asked lo hi below above n)
+        trial-by (not (allTimesFinite asked below above)) (not (soundOf asked lo hi below above)) (ltb 1 (widthOf lo hi)) (pointOf asked lo hi below above n)
     judged false = refusal 14 (λ e. omega arith)
 
 -- ---- the advance

@@ -10,7 +10,7 @@ use Rattle.session.specs.declared.record.Record.{Record}
 use Rattle.session.specs.declared.record.Record.the-variants as R
 use Rattle.session.specs.Layout.{kindIn, vehicleIn, timeIn, numbersIn}
 use Rattle.lines.specs.Days.{localOf}
-use Rattle.script.specs.Script.{stampPieces, whoPieces, headPieces, middle}
+use Rattle.script.specs.Script.{dayPieces, whoPieces, headPieces, middle}
 use Rattle.entry.specs.declared.line.Entry.{Entry}
 use Rattle.entry.specs.declared.line.Entry.the-variants.{State, Burn, Mark}
 
@@ -29,4 +29,4 @@ saidOf (R.Mark r) = Mark (r .time) (r .vehicle) (r .range) (r .rate)
 
 -- the first of them
 abbrev pub commentText : ℤ → Record → List ℕ
-commentText o r = concat (stampPieces (localOf (timeIn r) o)) ++ (concat (whoPieces (kindIn r) (vehicleIn r)) ++ concat (rowPieces Places (numbersIn r)))
+commentText o r = concat (dayPieces (localOf (timeIn r) o)) ++ (concat (whoPieces (kindIn r) (vehicleIn r)) ++ concat (rowPieces Places (numbersIn r)))

@@ -21,11 +21,11 @@ use Rattle.session.specs.Layout.{kindIn, vehicleIn, timeIn, numbersIn}
 use Rattle.lines.specs.Days.{localOf, dayOf, csOf}
 use Rattle.lines.proofs.Sizes.{name-short}
 use Rattle.lines.specs.Lines.{refusedPieces}
-use Rattle.script.specs.Script.{scriptRoom, stampPieces, whoPieces, headPieces, bodyPieces, frontPieces, backPieces, middle, recordPieces, offsetPieces, piecesOf}
+use Rattle.script.specs.Script.{scriptRoom, dayPieces, whoPieces, headPieces, bodyPieces, frontPieces, backPieces, middle, recordPieces, offsetPieces, piecesOf}
 
-stamp-most : (t : ℤ) → size (stampPieces t) ≤ 53
-unfolding concat stampPieces
-stamp-most t = simp length-append (omega (arith, signed-short (dayOf t), at-most 20 (csOf t)))
+day-most : (t : ℤ) → size (dayPieces t) ≤ 53
+unfolding concat dayPieces
+day-most t = simp length-append (omega (arith, signed-short (dayOf t), at-most 20 (csOf t)))
 
 who-most : (k : Kind) (v : ℕ) → size (whoPieces k v) ≤ 37
 unfolding concat whoPieces
@@ -48,7 +48,7 @@ middle-most (R.Mark r) = lit≤ tt
 front-most : (t o : ℤ) (k : Kind) (v : ℕ) (xs : List Float) → size (frontPieces t o k v xs) ≤ 139 + 22 * length xs
 unfolding concat frontPieces
 front-most t o k v xs =
-    simp (concat-append, length-append) (omega (arith, stamp-most (localOf t o), who-most k v, row-short xs, head-most k t v))
+    simp (concat-append, length-append) (omega (arith, day-most (localOf t o), who-most k v, row-short xs, head-most k t v))
 
 back-most : (xs : List Float) → size (backPieces xs) ≤ 18 * length xs + 1
 unfolding concat backPieces

@@ -30,8 +30,8 @@ abbrev pub scriptRoom : ℕ
 scriptRoom = 512
 
 -- `# day DAY cs CS: `
-unfoldable pub stampPieces : ℤ → List (List ℕ)
-stampPieces t = ascii "# day " ∷ signedText (dayOf t) ∷ ascii " cs " ∷ decimal (csOf t) ∷ ascii ": " ∷ []
+unfoldable pub dayPieces : ℤ → List (List ℕ)
+dayPieces t = ascii "# day " ∷ signedText (dayOf t) ∷ ascii " cs " ∷ decimal (csOf t) ∷ ascii ": " ∷ []
 
 -- `KIND of vehicle V`
 unfoldable pub whoPieces : Kind → ℕ → List (List ℕ)
@@ -47,7 +47,7 @@ bodyPieces b = ascii " " ∷ decimal b ∷ []
 
 -- the comment, by the local clock and with the numbers to six places, and what begins the line behind it
 unfoldable pub frontPieces : ℤ → ℤ → Kind → ℕ → List Float → List (List ℕ)
-frontPieces t o k v xs = stampPieces (localOf t o) ++ (whoPieces k v ++ (rowPieces Places xs ++ (ascii "\n" ∷ headPieces k t v)))
+frontPieces t o k v xs = dayPieces (localOf t o) ++ (whoPieces k v ++ (rowPieces Places xs ++ (ascii "\n" ∷ headPieces k t v)))
 
 -- the bits of the numbers, which end that line
 unfoldable pub backPieces : List Float → List (List ℕ)

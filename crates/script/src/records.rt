@@ -1,15 +1,15 @@
 // The lines themselves, each put at the front of a lent buffer, whose room the caller tests: 512 bytes hold them all.
 ghost use Rattle.text.specs.Pieces.{Laid};
 ghost use Rattle.lines.specs.Days.{localOf};
-ghost use Rattle.script.specs.Script.{stampPieces, whoPieces, headPieces, frontPieces, backPieces, bodyPieces, recordPieces, offsetPieces};
+ghost use Rattle.script.specs.Script.{dayPieces, whoPieces, headPieces, frontPieces, backPieces, bodyPieces, recordPieces, offsetPieces};
 use columns::Style;
 use lines::day_of;
 use session::Kind;
 use session::Record;
 
 // The day and the cs by the local clock, which begin a comment.
-fn stamp(buf: &mut [u8], time: i64, offset: i16) -> usize
-    ensures { λ r. ⌜ Laid (now (buf .entry)) 0 (stampPieces (localOf time offset)) (now (buf .exit)) r ⌝ }
+fn put_day(buf: &mut [u8], time: i64, offset: i16) -> usize
+    ensures { λ r. ⌜ Laid (now (buf .entry)) 0 (dayPieces (localOf time offset)) (now (buf .exit)) r ⌝ }
 {
     let d = day_of(time, offset);
     let day = d.day;
@@ -45,7 +45,7 @@ fn head(buf: &mut [u8], at: usize, k: Kind, time: i64, vehicle: u8) -> usize
 fn front(buf: &mut [u8], time: i64, offset: i16, k: Kind, vehicle: u8, xs: &[f64]) -> usize
     ensures { λ r. ⌜ Laid (now (buf .entry)) 0 (frontPieces time offset k vehicle (now (xs .entry))) (now (buf .exit)) r ⌝ }
 {
-    let a = stamp(buf, time, offset);
+    let a = put_day(buf, time, offset);
     let b = who(buf, a, k, vehicle);
     let c = columns::row(buf, b, Style::Places, xs);
     let d = text::byte(buf, c, b'\n');

@@ -1,6 +1,6 @@
 -- By the case of the answer. Assumes nothing.
 use native.Mathlib.Omega.{arith}
-use Rattle.library.specs.Answers.{timeTold}
+use Rattle.library.specs.Answers.{transferTimeTold}
 use Rattle.lent.proofs.Gives.{put-numbers, left-numbers}
 use borrow.Author.Needs.{needs}
 use Rattle.library.proofs.conic.give_time.Statement.{statement}
@@ -28,19 +28,19 @@ same-length : tie.Need-same-length
 same-length c = search needs
 
 returns : tie.Need-returns
-unfolding timeTold
+unfolding transferTimeTold
 returns c = rw (c .before .before .before .before .before .before .a .given .1) (put-numbers (c .before .before .put-numbers .ensures) (omega arith, omega arith))
 
 returns-2 : tie.Need-returns-2
-unfolding timeTold
+unfolding transferTimeTold
 returns-2 c = rw (c .enum-told .given .1) left-numbers
 
 returns-3 : tie.Need-returns-3
-unfolding timeTold
+unfolding transferTimeTold
 returns-3 c = rw (c .enum-told2 .given .1) left-numbers
 
 returns-4 : tie.Need-returns-4
-unfolding timeTold
+unfolding transferTimeTold
 returns-4 c = rw (c .before .a2 .given .1) left-numbers
 
 pub give-time-spec : {M : Type 1} → statement M

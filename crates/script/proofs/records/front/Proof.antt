@@ -8,8 +8,8 @@ use borrow.Author.Needs.{needs}
 use Rattle.script.proofs.records.front.Statement.{statement}
 use Rattle.script.proofs.records.front.Tie as tie
 
-stamp-requires : tie.Need-stamp-requires
-stamp-requires c κs = search needs
+put-day-requires : tie.Need-put-day-requires
+put-day-requires c κs = search needs
 
 who-requires : tie.Need-who-requires
 who-requires c κs = search needs
@@ -31,7 +31,7 @@ unfolding frontPieces
 returns c =
     let s = toZ-ofZ {w = w64} {z = c .before .before .before .before .before .before .before .before .before .before .before .before .before .before .before .before .before .before .before .before .before .before .args .time} (c .before .before .before .before .before .before .before .before .before .before .before .before .before .before .before .before .before .before .before .before .before .before .fits .time) in
     let o = toZ-ofZ {w = w16} {z = c .before .before .before .before .before .before .before .before .before .before .before .before .before .before .before .before .before .before .before .before .before .before .args .offset} (c .before .before .before .before .before .before .before .before .before .before .before .before .before .before .before .before .before .before .before .before .before .before .fits .offset) in
-    let p = rw (s, o) at (c .before .before .before .before .before .before .before .before .before .before .before .before .before .before .before .before .before .before .stamp .ensures) in
+    let p = rw (s, o) at (c .before .before .before .before .before .before .before .before .before .before .before .before .before .before .before .before .before .before .put-day .ensures) in
     let q = rw s at (c .before .before .head .ensures) in
     and-then p (and-then (c .before .before .before .before .before .before .before .before .before .before .before .before .before .before .who .ensures) (and-then (c .before .before .before .before .before .before .before .before .before .before .row .ensures) (then (c .before .before .before .before .before .before .byte .ensures) q)))
 
@@ -39,7 +39,7 @@ pub front-spec : {M : Type 1} → statement M
 front-spec =
     tie.close
     (tie.spec
-    stamp-requires
+    put-day-requires
     who-requires
     row-requires
     byte-requires

@@ -5,10 +5,10 @@ use mir.Facts.{toZ-ofZ}
 use Rattle.text.specs.Pieces.{then}
 use Rattle.text.proofs.Lays.{one}
 use Rattle.lines.specs.Days.{localOf, dayOf, csOf}
-use Rattle.script.specs.Script.{stampPieces}
+use Rattle.script.specs.Script.{dayPieces}
 use borrow.Author.Needs.{needs}
-use Rattle.script.proofs.records.stamp.Statement.{statement}
-use Rattle.script.proofs.records.stamp.Tie as tie
+use Rattle.script.proofs.records.put_day.Statement.{statement}
+use Rattle.script.proofs.records.put_day.Tie as tie
 
 day-of-requires : tie.Need-day-of-requires
 day-of-requires c κs = search needs
@@ -41,7 +41,7 @@ same-length : tie.Need-same-length
 same-length c = search needs
 
 returns : tie.Need-returns
-unfolding stampPieces
+unfolding dayPieces
 returns c =
     let s = toZ-ofZ {w = w64} {z = c .before .before .before .before .before .before .before .before .before .before .before .before .before .before .before .before .before .before .before .before .before .before .before .before .before .before .args .time} (c .before .before .before .before .before .before .before .before .before .before .before .before .before .before .before .before .before .before .before .before .before .before .before .before .before .before .fits .time) in
     let o = toZ-ofZ {w = w16} {z = c .before .before .before .before .before .before .before .before .before .before .before .before .before .before .before .before .before .before .before .before .before .before .before .before .before .before .args .offset} (c .before .before .before .before .before .before .before .before .before .before .before .before .before .before .before .before .before .before .before .before .before .before .before .before .before .before .fits .offset) in
@@ -53,8 +53,8 @@ returns c =
     let q = rw y at (c .before .before .before .before .before .before .before .number .ensures) in
     then (c .before .before .before .before .before .before .before .before .before .before .before .before .before .before .before .before .before .before .before .before .bytes .ensures) (then p (then (c .before .before .before .before .before .before .before .before .before .before .before .bytes2 .ensures) (then q (one (c .before .before .bytes3 .ensures)))))
 
-pub stamp-spec : {M : Type 1} → statement M
-stamp-spec =
+pub put-day-spec : {M : Type 1} → statement M
+put-day-spec =
     tie.close
     (tie.spec
     day-of-requires
