@@ -15,7 +15,7 @@ use session::Place;
 use session::Reading;
 use session::Record;
 
-// A record's fields ahead of its numbers, the time.
+// A record's fields ahead of its numbers.
 pub struct Head {
     pub kind: u64,
     pub vehicle: u8,
