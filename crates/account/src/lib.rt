@@ -1,4 +1,6 @@
 // The account of a replay, line by line: the heading, a line a record, the reader's refusal, and the two vehicles.
+#![tactic(auto)]
+
 ghost use Rattle.std.specs.Prelude.{◌≤◌, ◌≡◌, length};
 ghost use Rattle.account.specs.Account.{is_done, step_at, step_of, Stepped, Telling};
 
@@ -7,7 +9,7 @@ use replay::Replay;
 use session::{Place, Reading};
 
 // What the next line is: the heading, that of what stands at a place, that of vehicle 0 or 1, or none.
-#[derive(Drop)]
+#[derive(Clone, Copy)]
 pub enum Next {
     Heading,
     At(Place),
@@ -17,7 +19,7 @@ pub enum Next {
 }
 
 // How long the line is, what comes next, and the vehicles then.
-#[derive(Drop)]
+#[derive(Clone, Copy)]
 pub struct Told {
     pub length: usize,
     pub next: Next,
@@ -25,7 +27,7 @@ pub struct Told {
 }
 
 // The line, or the number of the refusal.
-#[derive(Drop)]
+#[derive(Clone, Copy)]
 pub enum Made {
     Line(Told),
     Refused(u32),

@@ -1,5 +1,7 @@
 // The other routines' answers as lines, each put at the front of a lent buffer, whose room the caller tests: 512 bytes
 // hold every line. What is answered is the line's length.
+#![tactic(auto)]
+
 ghost use Rattle.text.specs.Pieces.{Laid};
 ghost use Rattle.answers.specs.Answers.{one_pieces, closed_pieces, point_pieces, answer_pieces, tried_pieces, timed_pieces, apsides_pieces};
 

@@ -1,4 +1,6 @@
 // Periapo: the two apsides of a state's orbit.
+#![tactic(auto)]
+
 ghost use Rattle.std.specs.Prelude.{◌≡◌};
 ghost use Rattle.table.specs.Tests.{◌▷◌, first_failing};
 ghost use Rattle.apsides.specs.Apsides.{radicand_of, shape_of, derived_row, apsides_tests, distances_of, apsides_of};
@@ -7,7 +9,7 @@ use table::{Name, Part, Test};
 use vector::State;
 
 // Closed with near and far, open with near only, or refused with its number.
-#[derive(Drop)]
+#[derive(Clone, Copy)]
 pub enum Apsides {
     Closed(f64, f64),
     Open(f64),
@@ -15,7 +17,7 @@ pub enum Apsides {
 }
 
 // The derived numbers.
-#[derive(Drop)]
+#[derive(Clone, Copy)]
 pub struct Shape {
     pub r1: f64,
     pub c2: f64,

@@ -1,5 +1,7 @@
 // A fixed series of solves and a checksum of the answers' bits: `bench NAME [COUNT]`, or every series, short, with no
 // argument. NAME with `-inputs` behind it is the same series with nothing solved. second/README.md has the series in words.
+#![tactic(auto)]
+
 mod fold;
 mod inputs;
 mod records;
@@ -10,7 +12,7 @@ ghost use Rattle.std.specs.Prelude.{◌<◌, ◌≤◌, length};
 use libc::{STDERR_FILENO, STDOUT_FILENO};
 use runs::{Bench, run, usual};
 
-#[derive(Drop)]
+#[derive(Clone, Copy)]
 enum Named {
     Bench(Bench),
     Unknown,

@@ -9,7 +9,7 @@ use report::{Filling, Next};
 use solve::{Advanced, Transferred};
 use theta::TransferTime;
 
-#[derive(Drop)]
+#[derive(Clone, Copy)]
 pub enum Bench {
     Root,
     Advance,

@@ -1,5 +1,7 @@
 // The lines of a session's text entered one behind the other: each line is counted, and the first that cannot be read or
 // is refused ends it.
+#![tactic(auto)]
+
 ghost use Rattle.std.specs.Prelude.{◌≡◌};
 ghost use Rattle.text.specs.Text.{InFront};
 ghost use Rattle.text.specs.Pieces.{Laid};
@@ -12,7 +14,7 @@ use text::Made;
 
 // The place behind the records and how many lines were read; or the line that ended it, with the word that cannot be
 // read or the number of the refusal.
-#[derive(Drop)]
+#[derive(Clone, Copy)]
 pub enum Progress {
     Going(usize, u64),
     Unread(u64, u64),

@@ -1,4 +1,6 @@
 // A bracket as text, put into a lent buffer at a place: what stands behind `from` can be put behind the request as it is.
+#![tactic(auto)]
+
 ghost use Rattle.text.specs.Pieces.{Laid};
 ghost use Rattle.brackets.specs.Brackets.{judgement_pieces, bracket_end_pieces, from_pieces, stopped_pieces};
 

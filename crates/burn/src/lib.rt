@@ -1,5 +1,7 @@
 // The constant-height burn: the change of the active vehicle's velocity at T2 that puts it on an orbit coelliptic with the
 // passive one's, and the apsides after it.
+#![tactic(auto)]
+
 ghost use Rattle.std.specs.Prelude.{◌≡◌};
 ghost use Rattle.burn.specs.Burn.{kept_of, moved_of, at_time, in_line_of, margin_of, clear_of, cleared_of, changed_of, sped_of, beside_of, coelliptic_of, from_point, from_passive, radius_allowed, burn_of};
 
@@ -12,7 +14,7 @@ use theta::TransferTime;
 use vector::{State, Vector};
 
 // The body, 0 the earth and 1 the moon, its surface radius, and mu.
-#[derive(Drop)]
+#[derive(Clone, Copy)]
 pub struct Centre {
     pub body: u64,
     pub radius: f64,
@@ -20,7 +22,7 @@ pub struct Centre {
 }
 
 // The velocity change with the apsides after it, near and far or near alone, or refused with its number.
-#[derive(Drop)]
+#[derive(Clone, Copy)]
 pub enum Burn {
     Closed(Vector, f64, f64),
     Open(Vector, f64),
@@ -28,7 +30,7 @@ pub enum Burn {
 }
 
 // A state moved along its orbit, or the number of the refusal.
-#[derive(Drop)]
+#[derive(Clone, Copy)]
 enum Brought {
     Moved(State),
     Refused(u32),

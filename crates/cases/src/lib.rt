@@ -1,5 +1,7 @@
 // What is a case, or holds one, in memory that a caller of another language lends: judgements, ways round, grades, and a
 // stopped run.
+#![tactic(auto)]
+
 mod runs;
 
 ghost use Rattle.std.specs.Prelude.{◌≡◌};

@@ -1,5 +1,7 @@
 // The answer of the constant-height burn as a line, put at the front of a lent buffer, whose room the caller tests: 512
 // bytes hold every line. What is answered is the line's length.
+#![tactic(auto)]
+
 ghost use Rattle.text.specs.Pieces.{Laid};
 ghost use Rattle.changes.specs.Changes.{closed_pieces, open_pieces, burn_pieces};
 

@@ -1,18 +1,20 @@
 // The formulas of the constant-height burn.
+#![tactic(auto)]
+
 ghost use Rattle.std.specs.Prelude.{◌≡◌};
 ghost use Rattle.coelliptic.specs.Coelliptic.{unit_of, normal_of, projected_of, turned_by, angle_of, passive_of, axis_of, speeds_of, new_of};
 
 use vector::{State, Vector};
 
 // The angle from the passive vehicle to the active one, in the passive plane.
-#[derive(Drop)]
+#[derive(Clone, Copy)]
 pub struct Angle {
     pub sin: f64,
     pub cos: f64,
 }
 
 // The passive orbit at the point in line: its distance, α, its semimajor axis and its radial speed.
-#[derive(Drop)]
+#[derive(Clone, Copy)]
 pub struct Passive {
     pub r: f64,
     pub alpha: f64,
@@ -21,7 +23,7 @@ pub struct Passive {
 }
 
 // The active vehicle's radial speed, and what stands under the root of its horizontal speed.
-#[derive(Drop)]
+#[derive(Clone, Copy)]
 pub struct Speeds {
     pub radial: f64,
     pub radicand: f64,

@@ -1,12 +1,14 @@
 // Numbers in a row, put into a lent buffer at a place: to six places for people, and at the line's end their bits.
 // A refusal and a word that cannot be read, as lines. Each routine answers the place behind what it put, or
 // text::NOWHERE where not all of it fits.
+#![tactic(auto)]
+
 ghost use Rattle.text.specs.Text.{Put};
 ghost use Rattle.text.specs.Pieces.{Laid};
 ghost use Rattle.columns.specs.Rows.{figure_text, row_pieces, labelled_pieces, end_pieces, counted_pieces, refused_pieces, unread_pieces};
 
 // A number to six places, or its bits.
-#[derive(Drop)]
+#[derive(Clone, Copy)]
 pub enum Style {
     Places,
     Bits,

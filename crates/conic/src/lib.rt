@@ -1,4 +1,6 @@
 // What the conic routines share: the grid, two derived numbers with their rows, and the time of a trial.
+#![tactic(auto)]
+
 ghost use Rattle.std.specs.Prelude.{◌≡◌};
 ghost use Rattle.table.specs.Tests.{◌▷◌};
 ghost use Rattle.conic.specs.Conic.{grid_of, c2_of, p_of, p_n_of, c2_row, p_row, straight_row, time_of, range_test, outside_of, point_at};
@@ -8,7 +10,7 @@ use table::{Entry, Limit, Name, Part, Test};
 use vector::Vector;
 
 // What the trials of one solve share.
-#[derive(Drop)]
+#[derive(Clone, Copy)]
 pub struct Orbit {
     pub r1: f64,
     pub rootmu: f64,
@@ -17,7 +19,7 @@ pub struct Orbit {
 }
 
 // The numbers of one trial, z = x·x and the time t among them.
-#[derive(Drop)]
+#[derive(Clone, Copy)]
 pub struct Point {
     pub x: f64,
     pub z: f64,
@@ -28,7 +30,7 @@ pub struct Point {
 }
 
 // A trial's numbers, or the range test of ξ that fails.
-#[derive(Drop)]
+#[derive(Clone, Copy)]
 pub enum Trial {
     Numbers(Point),
     Stopped(Entry),

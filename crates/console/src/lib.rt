@@ -1,18 +1,20 @@
 // What the programs read and write around the proved routines. What comes in, and what becomes of what goes out, is the
 // world's: the contracts say what is certain of the lent buffers.
+#![tactic(auto)]
+
 ghost use Rattle.io.specs.Counts.{IsPrefixLen};
 
 use libc::{STDERR_FILENO, STDIN_FILENO, STDOUT_FILENO};
 
 // What was read of an input: so many bytes at the front of the buffer. Where a read failed there may have been more.
-#[derive(Drop)]
+#[derive(Clone, Copy)]
 pub struct Input {
     pub length: usize,
     pub failed: bool,
 }
 
 // A file that the command names: its descriptor, which is below zero where it is not open, and the length of its name.
-#[derive(Drop)]
+#[derive(Clone, Copy)]
 pub struct Named {
     pub fd: i32,
     pub length: usize,

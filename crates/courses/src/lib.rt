@@ -1,4 +1,6 @@
 // The line of the constant-height burn, read behind its name, part by part.
+#![tactic(auto)]
+
 ghost use Rattle.std.specs.Prelude.{◌≡◌};
 ghost use Rattle.forms.specs.Forms.{read_by};
 ghost use Rattle.courses.specs.Courses.{times_form, passive_time, passive_form, active_time, centre_form, cdh_form};

@@ -1,6 +1,8 @@
 // A request a line on standard input, an answer a line on standard output. The argument, where there is one, names the file
 // of the settings, which is read once, ahead of the first request; where it cannot be read, a message goes to standard
 // error and nothing is answered. The work is in `reply`; this reads the settings and the lines.
+#![tactic(auto)]
+
 ghost use Rattle.std.specs.Prelude.{◌≤◌, length};
 ghost use Rattle.desk.specs.Keeps.{Inside, Keeps};
 
@@ -24,7 +26,7 @@ fn answer(used: &[u8], line: &[u8]) -> bool {
 }
 
 // What comes of some input: the bytes kept of a line whose newline is still to come, or the end.
-#[derive(Drop)]
+#[derive(Clone, Copy)]
 enum Fed {
     Kept(usize),
     Stopped,

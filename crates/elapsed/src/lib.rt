@@ -1,9 +1,11 @@
 // The time from one recorded time to another, exactly, for any two: whole centiseconds.
+#![tactic(auto)]
+
 ghost use Rattle.std.specs.Prelude.{◌≡◌};
 ghost use Rattle.elapsed.specs.Elapsed.{raised, apart_of, at_least, elapsed_of};
 
 // The time in cs, or that it is over 2^28 in size.
-#[derive(Drop)]
+#[derive(Clone, Copy)]
 pub enum Elapsed {
     Cs(f64),
     TooLong,

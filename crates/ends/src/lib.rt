@@ -1,4 +1,6 @@
 // A bracket's ends as text: an end with its judgement, and the line of what is amiss with a bracket to go on from.
+#![tactic(auto)]
+
 ghost use Rattle.std.specs.Prelude.{◌∷◌};
 ghost use Rattle.text.specs.Pieces.{Laid};
 ghost use Rattle.brackets.specs.Brackets.{bracket_end_pieces};

@@ -1,4 +1,6 @@
 // A line of a session's text entered: the record that it says is written behind those that are there.
+#![tactic(auto)]
+
 mod records;
 
 ghost use Rattle.std.specs.Prelude.{◌≡◌};
@@ -11,7 +13,7 @@ use writer::Written;
 
 // The place behind the record, or where it was if the line says nothing; the number of the refusal; or the first word
 // that cannot be read.
-#[derive(Drop)]
+#[derive(Clone, Copy)]
 pub enum Entered {
     Next(usize),
     Refused(u32),

@@ -8,7 +8,7 @@ use vector::{State, Vector};
 
 // What a line says. A line with no word and a comment say nothing; a line that cannot be read tells its first such word,
 // or 0 for a line of over 1,000 bytes. What is read may still not be allowed: it is as large as its word says.
-#[derive(Drop)]
+#[derive(Clone, Copy)]
 pub enum Entry {
     Nothing,
     Offset(i64),

@@ -9,21 +9,21 @@ use numerals::{Number, Signed, Whole};
 use vector::Vector;
 
 // The time and the vehicle, which stand behind a record's name.
-#[derive(Drop)]
+#[derive(Clone, Copy)]
 pub enum Stamp {
     Read(i64, u64),
     Unread(u64),
 }
 
 // Two numbers.
-#[derive(Drop)]
+#[derive(Clone, Copy)]
 pub enum Pair {
     Read(f64, f64),
     Unread(u64),
 }
 
 // Three numbers.
-#[derive(Drop)]
+#[derive(Clone, Copy)]
 pub enum Triple {
     Read(Vector),
     Unread(u64),

@@ -14,6 +14,7 @@ never false h = refl
 
 pub or_left : (p q : Bool) → T p → T (p || q)
 or_left true q t = tt
+or_left false q t = elim t [ ]
 
 pub or_right : (p q : Bool) → T q → T (p || q)
 or_right true q t = tt

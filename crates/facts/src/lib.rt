@@ -1,1 +1,2 @@
 // Facts that the proofs of several crates cite, each once: no code (proofs/).
+#![tactic(auto)]

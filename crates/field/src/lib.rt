@@ -1,4 +1,6 @@
 // The fields of bytes, little-endian: numbers read at a place, and put there.
+#![tactic(auto)]
+
 mod writing;
 
 ghost use Rattle.std.specs.Prelude.{◌%◌, ◌^◌, ◌≤◌, ◌<◌, min, ◌≡◌, length};

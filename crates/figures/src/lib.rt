@@ -1,5 +1,7 @@
 // Numbers as text, put into a lent buffer at a place: six places for people, and the exact bits.
 // Each routine answers the place behind the text, or text::NOWHERE where it does not fit; the buffer is then as it was.
+#![tactic(auto)]
+
 ghost use Rattle.std.specs.Prelude.{◌+◌, ◌*◌, ◌^◌, ◌/◌, ◌%◌, ◌≤◌, ◌<◌, ◌≡◌, length};
 ghost use Rattle.text.specs.Text.{Stands, Put};
 ghost use Rattle.figures.specs.Figures.{places, minus_text, millionths, fixed_of, bits_text};

@@ -1,4 +1,6 @@
 // The flight of one vehicle: advanced to a time by Kepler, and through a burn; and how far two are from a range measured.
+#![tactic(auto)]
+
 ghost use Rattle.std.specs.Prelude.{◌≡◌};
 ghost use Rattle.flight.specs.Flight.{mu_of, too_far, flown_as, flown_of, burned_of, off_of};
 
@@ -8,14 +10,14 @@ use table::{Name, Test};
 use vector::{State, Vector};
 
 // mu of each body.
-#[derive(Drop)]
+#[derive(Clone, Copy)]
 pub struct Mu {
     pub earth: f64,
     pub moon: f64,
 }
 
 // A vehicle that is set: the body it flies about (0 the earth), the time of its state, and the state.
-#[derive(Drop)]
+#[derive(Clone, Copy)]
 pub struct Flight {
     pub body: u8,
     pub time: i64,
@@ -23,7 +25,7 @@ pub struct Flight {
 }
 
 // Where a vehicle comes to, or the number of the refusal.
-#[derive(Drop)]
+#[derive(Clone, Copy)]
 pub enum Flown {
     To(Flight),
     Refused(u32),

@@ -1,5 +1,7 @@
 // The listing of a session as it comes: the line of each step of the stream's reader, made at the front of a lent line
 // buffer. A step that gives no line makes one of no bytes.
+#![tactic(auto)]
+
 ghost use Rattle.std.specs.Prelude.{◌≡◌};
 ghost use Rattle.text.specs.Text.{InFront};
 ghost use Rattle.lines.specs.Lines.{line_room};

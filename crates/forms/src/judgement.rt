@@ -5,7 +5,7 @@ ghost use Rattle.forms.specs.Judgements.{as_low, as_high, word_judgement};
 use iterator::Judgement;
 use numerals::Number;
 
-#[derive(Drop)]
+#[derive(Clone, Copy)]
 pub enum Judged {
     Read(Judgement),
     Unread,

@@ -1,4 +1,6 @@
 // What the desk can be asked, and the parts of a line: each word is read once.
+#![tactic(auto)]
+
 mod judgement;
 mod parts;
 
@@ -9,7 +11,7 @@ pub use parts::{Ends, Sides, ends_at, judgement_at, numbers, only_numbers, sides
 use vector::{State, Vector};
 
 // Whose fractions the grade goes by: 01's, or those of a version of the settings.
-#[derive(Drop)]
+#[derive(Clone, Copy)]
 pub enum Version {
     Standard,
     Named(u64),
@@ -17,7 +19,7 @@ pub enum Version {
 
 // What a solve is given. An iterated one begins at the start or where it was stopped, has a limit on its trials, and is
 // graded by the fractions of its version.
-#[derive(Drop)]
+#[derive(Clone, Copy)]
 pub enum Solve {
     Kepler {
         mu: f64,
@@ -50,7 +52,7 @@ pub enum Solve {
 }
 
 // What the thumbwheel and the sight line are given.
-#[derive(Drop)]
+#[derive(Clone, Copy)]
 pub enum Look {
     Wheel(u64),
     Sight {
@@ -64,7 +66,7 @@ pub enum Look {
 
 // What a line asks; `Why` asks for the reason of a solve's answer. A line with no word and a comment ask nothing; a line
 // that cannot be read tells its first such word, or 0 for a line of over 1,000 bytes.
-#[derive(Drop)]
+#[derive(Clone, Copy)]
 pub enum Request {
     Nothing,
     Root(f64),

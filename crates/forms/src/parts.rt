@@ -51,7 +51,7 @@ pub fn judgement_at(line: &[u8], k: u64) -> Judged
 }
 
 // Two places on the grid.
-#[derive(Drop)]
+#[derive(Clone, Copy)]
 pub enum Ends {
     Read(i64, i64),
     Unread(u64),
@@ -71,7 +71,7 @@ pub fn ends_at(line: &[u8], k: u32) -> Ends
 }
 
 // The judgements of two places.
-#[derive(Drop)]
+#[derive(Clone, Copy)]
 pub enum Sides {
     Read(Judgement, Judgement),
     Unread(u64),

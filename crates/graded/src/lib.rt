@@ -1,5 +1,7 @@
 // The iterated solves by the settings: their grades go by the two fractions of the version that is named. The settings are
 // looked at first; all else of the answer is the solve's own.
+#![tactic(auto)]
+
 ghost use Rattle.std.specs.Prelude.{◌≡◌};
 ghost use Rattle.graded.specs.Graded.{fractions_of, graded, graded_advanced, graded_transferred, graded_advance, graded_transfer};
 

@@ -1,4 +1,6 @@
 // The two vehicles of a replay in lent arrays, read and put there again.
+#![tactic(auto)]
+
 ghost use Rattle.std.specs.Prelude.{◌≤◌, ◌≡◌, [], ◌∷◌, take};
 ghost use Rattle.field.specs.Bytes.{bits_of};
 ghost use Rattle.lent.specs.Given.{put_in};

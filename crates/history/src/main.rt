@@ -1,5 +1,7 @@
 // One order on the settings: the used part on standard input, the order's words as one argument. The answer goes to
 // standard output. Where a version was stored, the used part with it goes to descriptor 3 first; else nothing does.
+#![tactic(auto)]
+
 ghost use Rattle.std.specs.Prelude.{◌≤◌, length};
 ghost use Rattle.history.specs.Within.{Within};
 

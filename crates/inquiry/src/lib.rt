@@ -1,4 +1,6 @@
 // Why a solve that is asked for refuses, or that it does not.
+#![tactic(auto)]
+
 ghost use Rattle.std.specs.Prelude.{◌≡◌};
 ghost use Rattle.inquiry.specs.Inquiry.{settled_by, inquiry_of};
 

@@ -1,16 +1,14 @@
 -- The trial of a run: from a sound start, and with a judge whose times are judged by `judged_of`, it is never refused,
 -- its points are the run's own, and none is left exactly at neighbours. Assumes nothing.
-use Prim.Native.Nat.{ℕ, ◌+◌, ◌^◌, ◌≤◌, ◌<◌}
-use mathlib.Core.Path.{◌≡◌, refl, sym, ◌∙◌}
-use mathlib.Core.Bool.{Bool, true, false, cond, not, true≢false}
-use borrow.Author.Tests.{ltb-true, ltb-false}
+use Prim.Native.Nat.{ℕ, ◌+◌, ◌^◌, ◌<◌}
+use mathlib.Core.Path.{◌≡◌, refl}
+use mathlib.Core.Bool.{Bool, true, false, cond, not}
 use lib.Dec.{ltb}
 use lib.IntN.{ℤ, pos, neg_ℤ}
 use lib.Signed.{lt_z, le_z, ◌<ℤ◌, ◌≤ℤ◌, lt_z_yes, le_z_yes}
 use lib.Ieee.{Float, nan, inf, fin, below, lt, le, eq, of_bits}
 use lib.Ieee.Bits.{is_true}
 use Rattle.facts.proofs.Truth.{and_0, and-1, both, of-true}
-use Rattle.facts.proofs.Wholes.{zero_one}
 use Rattle.real.proofs.Order.{above-it}
 use Rattle.real.specs.F64.{◌≤ᶠ◌, finite}
 use Rattle.iterator.specs.Judged.{in_time, judged_of}

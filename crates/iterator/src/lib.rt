@@ -1,5 +1,7 @@
 // The iterator: the judgement of a trial, the rule by which each trial's point is chosen, and the
 // single trial called from outside.
+#![tactic(auto)]
+
 ghost use Rattle.std.specs.Prelude.{◌≡◌, ◌<◌};
 ghost use Rattle.iterator.specs.Judged.{in_time, judged_of};
 ghost use Rattle.iterator.specs.Rule.{Grid, width_of, brought_into, secant_of, stride_of, point_of};
@@ -8,7 +10,7 @@ ghost use Rattle.iterator.specs.Single.{time_finite, all_times_finite, in_grid, 
 ghost use Rattle.iterator.specs.Single.{is_below, agrees, ends_agree, sound_of, next_trial_of, single_trial_of, more_left};
 
 // Low and high carry the time found; under is too fast and over too slow to have one.
-#[derive(Drop)]
+#[derive(Clone, Copy)]
 pub enum Judgement {
     Low(f64),
     High(f64),
@@ -17,7 +19,7 @@ pub enum Judgement {
 }
 
 // Whole numbers lo < hi with their judgements, and the number of trials made.
-#[derive(Drop)]
+#[derive(Clone, Copy)]
 pub struct Bracket {
     pub lo: i64,
     pub hi: i64,
@@ -27,14 +29,14 @@ pub struct Bracket {
 }
 
 // Where trials begin: at the grid's own ends, or where a run stopped.
-#[derive(Drop)]
+#[derive(Clone, Copy)]
 pub enum Beginning {
     Start,
     Stopped(Bracket),
 }
 
 // What a single trial answers: its point, that none is left, or a refusal's number.
-#[derive(Drop)]
+#[derive(Clone, Copy)]
 pub enum Tried {
     Point(i64),
     NoneLeft,
@@ -123,8 +125,8 @@ fn width(lo: i64, hi: i64) -> u64
 
 // The k-th trial's point, in a bracket wider than 1.
 fn place(asked: f64, lo: i64, hi: i64, below: Judgement, above: Judgement, k: u64) -> i64
-    requires fact_1 { Grid lo hi }
-    requires fact_2 { 1 < width_of lo hi }
+    requires on_grid { Grid lo hi }
+    requires not_neighbours { 1 < width_of lo hi }
     ensures { result ≡ point_of asked lo hi below above k }
 {
     let d = stride(asked, width(lo, hi), below, above, k);

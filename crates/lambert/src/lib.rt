@@ -1,5 +1,7 @@
 // Lambert: two positions and a time give a velocity. Here are its tests ahead of the first trial, the judge of a grid
 // point, and the velocity at one; the trials themselves are run by `trials`.
+#![tactic(auto)]
+
 ghost use Rattle.std.specs.Prelude.{◌≡◌};
 ghost use Rattle.table.specs.declared.Test.TheVariants.{Passed};
 ghost use Rattle.table.specs.Tests.{◌▷◌, first_failing};
@@ -11,7 +13,7 @@ use table::{Limit, Name, Part, Test};
 use vector::Vector;
 
 // The short way round from the first position to the second, the long way, or the way round a normal that is given.
-#[derive(Drop)]
+#[derive(Clone, Copy)]
 pub enum Way {
     Short,
     Long,
@@ -19,7 +21,7 @@ pub enum Way {
 }
 
 // What depends on the way: sinθ and the normal. The size |u1×u2| itself does not.
-#[derive(Drop)]
+#[derive(Clone, Copy)]
 struct Turn {
     size: f64,
     sin: f64,
@@ -27,7 +29,7 @@ struct Turn {
 }
 
 // What the trials of one solve share: size is |u1×u2|, and cothalf is sinθ/(1 − cosθ).
-#[derive(Drop)]
+#[derive(Clone, Copy)]
 pub struct Transfer {
     pub mu: f64,
     pub r1: f64,

@@ -1,4 +1,6 @@
 // What a caller of another language lends: arrays that are read as vectors and states, and arrays that are given an answer.
+#![tactic(auto)]
+
 mod putting;
 
 ghost use Rattle.std.specs.Prelude.{◌≡◌, get_or};

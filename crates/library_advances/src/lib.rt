@@ -1,5 +1,7 @@
 // The front door for C, as in `library`: the advance under a limit on the count of trials, gone on with, and graded by a
 // version of the settings.
+#![tactic(auto)]
+
 ghost use Rattle.std.specs.Prelude.{◌≤◌, length};
 ghost use Rattle.lent.specs.Given.{Given};
 ghost use Rattle.library_advances.specs.Advances.{advanced_within_told, advance_within_in, advance_by_in};

@@ -1,4 +1,6 @@
 // The front door for C, as in `library`: the constant-height burn.
+#![tactic(auto)]
+
 ghost use Rattle.std.specs.Prelude.{◌≤◌, length};
 ghost use Rattle.lent.specs.Given.{Given};
 ghost use Rattle.library_burn.specs.Burns.{burn_told, burn_in};

@@ -1,4 +1,6 @@
 // The front door for C, as in `library`: the desk, a line in and a line out.
+#![tactic(auto)]
+
 ghost use Rattle.std.specs.Prelude.{◌≡◌};
 ghost use Rattle.lent.specs.Given.{GivenWholes};
 ghost use Rattle.library_desk.specs.Asked.{ask_in, ask_after};

@@ -1,4 +1,6 @@
 // The front door for C, as in `library`: the listing's lines.
+#![tactic(auto)]
+
 ghost use Rattle.std.specs.Prelude.{◌≡◌, leb, length};
 ghost use Rattle.lines.specs.Lines.{line_room, heading_text, refused_text};
 ghost use Rattle.lent.specs.Given.{GivenWholes, room_for, in_front, bytes_after};

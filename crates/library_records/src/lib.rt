@@ -1,4 +1,6 @@
 // The front door for C, as in `library`: a session read and written record by record.
+#![tactic(auto)]
+
 mod reading;
 mod writing;
 

@@ -12,7 +12,7 @@ use lent::{put_numbers, put_wholes};
 use session::{Place, Reading, Record};
 
 // A record's fields ahead of its numbers.
-#[derive(Drop)]
+#[derive(Clone, Copy)]
 pub struct Head {
     pub kind: u64,
     pub vehicle: u8,

@@ -1,4 +1,6 @@
 // The front door for C, as in `library`: one step of a replay, over two vehicles that the caller keeps.
+#![tactic(auto)]
+
 ghost use Rattle.std.specs.Prelude.{◌≤◌, ◌≡◌, length};
 ghost use Rattle.lent.specs.Given.{Given};
 ghost use Rattle.library_replay.specs.Steps.{record_wrong, answered_told, step_in};

@@ -1,4 +1,6 @@
 // The front door for C, as in `library`: the settings as versions in a lent buffer.
+#![tactic(auto)]
+
 ghost use Rattle.std.specs.Prelude.{◌≤◌, ◌≡◌, length};
 ghost use Rattle.lent.specs.Given.{Given, GivenWholes};
 ghost use Rattle.library_settings.specs.Versions.{looked_told, look_in, stored_told, store_in, store_after, back_in, back_after};

@@ -1,4 +1,6 @@
 // The front door for C, as in `library`: the single trial, and the two solves.
+#![tactic(auto)]
+
 ghost use Rattle.std.specs.Prelude.{◌≤◌, length};
 ghost use Rattle.lent.specs.Given.{Given, GivenWholes};
 ghost use Rattle.library_solves.specs.Solves.{tried_told, trial_in, advanced_told, advance_in, transferred_told, transfer_in};

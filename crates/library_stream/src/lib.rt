@@ -1,4 +1,6 @@
 // The front door for C, as in `library`: a session that comes in parts.
+#![tactic(auto)]
+
 ghost use Rattle.std.specs.Prelude.{◌≤◌, ◌≡◌, length};
 ghost use Rattle.stream.specs.declared.Step.TheVariants as P;
 ghost use Rattle.lent.specs.Given.{Given, GivenWholes};

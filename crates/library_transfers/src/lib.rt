@@ -1,5 +1,7 @@
 // The front door for C, as in `library`: the transfer velocity under a limit on the count of trials, gone on with, and graded
 // by a version of the settings.
+#![tactic(auto)]
+
 ghost use Rattle.std.specs.Prelude.{◌≤◌, ◌≡◌, length};
 ghost use Rattle.lent.specs.Given.{Given};
 ghost use Rattle.library_transfers.specs.Transfers.{ends_short, transferred_within_told, transfer_within_in, transfer_by_in};

@@ -1,4 +1,6 @@
 // A test of the refusal table as a person reads it: the number's name, its amount, what it must be, and its bits.
+#![tactic(auto)]
+
 ghost use Rattle.std.specs.Prelude.{◌≡◌, ◌∷◌};
 ghost use Rattle.text.specs.Text.{Put};
 ghost use Rattle.text.specs.Pieces.{Laid};

@@ -4,7 +4,7 @@ ghost use Rattle.lines.specs.Days.{local_of, day_of, cs_of};
 
 use signs::{is_negative, magnitude};
 
-#[derive(Drop)]
+#[derive(Clone, Copy)]
 pub struct Day {
     pub day: i64,
     pub cs: u64,

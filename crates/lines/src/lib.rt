@@ -1,4 +1,6 @@
 // The listing's lines, each made at the front of a lent line buffer.
+#![tactic(auto)]
+
 mod day;
 mod line;
 

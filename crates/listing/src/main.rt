@@ -1,5 +1,7 @@
 // Lists a session: the file that the argument names, or standard input. The listing goes to standard output, with one
 // write for many lines; where the session cannot be read, a message goes to standard error and nothing to standard output.
+#![tactic(auto)]
+
 use libc::{STDERR_FILENO, STDIN_FILENO};
 use report::{Filling, Next};
 

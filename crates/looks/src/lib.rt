@@ -1,4 +1,6 @@
 // The lines of the thumbwheel and of the sight line, read behind their names.
+#![tactic(auto)]
+
 ghost use Rattle.std.specs.Prelude.{◌≡◌};
 ghost use Rattle.forms.specs.Forms.{read_by};
 ghost use Rattle.looks.specs.Looks.{wheel_form, axes_form, elevation_form, sight_form};

@@ -2,13 +2,13 @@
 ghost use Rattle.std.specs.Prelude.{◌≡◌, ◌≤◌};
 ghost use Rattle.numerals.specs.Numbers.{digit_of, word_digits, word_decimal, only_zero, word_whole, plain, minus, word_signed};
 
-#[derive(Drop)]
+#[derive(Clone, Copy)]
 pub enum Whole {
     Read(u64),
     Unread,
 }
 
-#[derive(Drop)]
+#[derive(Clone, Copy)]
 pub enum Signed {
     Read(i64),
     Unread,

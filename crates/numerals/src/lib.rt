@@ -1,4 +1,6 @@
 // What a word says as a number: bits or a decimal, or a whole number. What cannot be read is answered `Unread`.
+#![tactic(auto)]
+
 mod digits;
 mod places;
 mod reals;

@@ -5,7 +5,7 @@ ghost use Rattle.numerals.specs.Numbers.{of_pattern, pattern_of, over_ten, unsig
 use crate::digits::{Whole, read_digits};
 use words::Byte;
 
-#[derive(Drop)]
+#[derive(Clone, Copy)]
 pub enum Number {
     Read(f64),
     Unread,

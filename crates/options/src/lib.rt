@@ -1,5 +1,7 @@
 // What may stand behind an iterated solve: where its trials begin, a limit on their count, and the version of the settings
 // whose fractions grade it. What is there stands in this order, and a word that is none of these cannot be read.
+#![tactic(auto)]
+
 ghost use Rattle.std.specs.Prelude.{◌^◌, ◌<◌};
 ghost use Rattle.options.specs.Options.{ReadsEnd, ReadsStop, ReadsEnded, ReadsVersion, ReadsLimited, ReadsOptions};
 
@@ -8,21 +10,21 @@ use iterator::{Beginning, Bracket, Judgement};
 use numerals::{Signed, Whole};
 
 // A place on the grid and its judgement, or the number of the first word that cannot be read.
-#[derive(Drop)]
+#[derive(Clone, Copy)]
 enum End {
     Read(i64, Judgement),
     Unread(u64),
 }
 
 // A bracket, or likewise.
-#[derive(Drop)]
+#[derive(Clone, Copy)]
 enum Stop {
     Read(Bracket),
     Unread(u64),
 }
 
 // Where the trials begin, the limit on their count and the version, or likewise.
-#[derive(Drop)]
+#[derive(Clone, Copy)]
 pub enum Options {
     Read(Beginning, u64, Version),
     Unread(u64),

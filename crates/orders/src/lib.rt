@@ -1,4 +1,6 @@
 // What the settings are asked, in the words of a line: `list`, `show K`, `store BODY MU RADIUS CLOSED FAIR`, `back K`.
+#![tactic(auto)]
+
 ghost use Rattle.std.specs.Prelude.{◌≡◌};
 ghost use Rattle.orders.specs.Orders.{ended, version_order, fractions_order, constants_order, store_order, order_by, order_of};
 
@@ -7,7 +9,7 @@ use settings::Setting;
 use words::{is_word, word};
 
 // A line that cannot be read tells its first such word, the line's first word being 1.
-#[derive(Drop)]
+#[derive(Clone, Copy)]
 pub enum Order {
     List,
     Show(u64),

@@ -1,4 +1,6 @@
 // The two problems that trials are made for: the judge of a grid point, the grid's own ends, and the bracket to go on from.
+#![tactic(auto)]
+
 ghost use Rattle.std.specs.Prelude.{◌≡◌};
 ghost use Rattle.problem.specs.Problems.{judge_of, start_of, held_of, most_of};
 ghost use Rattle.problem.specs.declared.Checked.TheVariants.{Fine};
@@ -11,14 +13,14 @@ use lambert::Transfer;
 use reason::{Amiss, Stop};
 use table::Test;
 
-#[derive(Drop)]
+#[derive(Clone, Copy)]
 pub enum Problem {
     Kepler(Motion),
     Lambert(Transfer),
 }
 
 // Trials can go on from a bracket, or what is amiss with it.
-#[derive(Drop)]
+#[derive(Clone, Copy)]
 pub enum Checked {
     Fine,
     Wrong(Amiss),

@@ -1,5 +1,5 @@
 -- A float out of the range of a `u64`: what `to_unsigned 64` gives. Assumes nothing.
-use Rattle.std.proofs.Common.{◌≡◌, ℕ, suc, ◌+◌, ◌-◌, ◌*◌, ◌/◌, ◌<◌, ◌≤◌, min, true, false, ℤ, pos, negsuc, sym, refl, true≢false, le-div_iff_mul-le, arith, pow_pos, ltb-false}
+use Rattle.std.proofs.Common.{◌≡◌, ℕ, zero, suc, ◌+◌, ◌*◌, ◌/◌, ◌<◌, ◌≤◌, min, true, false, ℤ, pos, negsuc, sym, refl, true≢false, le-div_iff_mul-le, arith, pow_pos, ltb-false}
 use lib.Ieee.{Float, nan, inf, fin, up, down, lt, to_unsigned}
 
 down_pos : (e : ℤ) → 0 < down e
@@ -7,6 +7,8 @@ down_pos (pos k) = omega arith
 down_pos (negsuc k) = pow_pos (suc k)
 
 none : {X : Type 0} (a d b : ℕ) → 0 < d → 0 < a → a * d + b ≤ 0 → X
+none zero d b p q h = elim q [ ]
+none (suc a) zero b p q h = elim p [ ]
 none (suc a) (suc d) b p q h = absurd (no a d b h)
   where
     no : (a d b : ℕ) → suc a * suc d + b ≤ 0 → ⊥

@@ -1,12 +1,14 @@
 // What every routine shares of f64: two tests, a whole number as an f64 and an f64 cut to one, and the answer of a routine
 // that gives one number.
+#![tactic(auto)]
+
 ghost use Rattle.std.specs.Prelude.{◌≡◌, pos};
 ghost use Rattle.std.specs.Float.{binary64};
 ghost use Rattle.std.specs.Float.Ieee.{of_int};
 ghost use Rattle.real.specs.F64.{finite, size_of, cut_of};
 
 // A number, or the number of the refusal.
-#[derive(Drop)]
+#[derive(Clone, Copy)]
 pub enum Answer {
     Value(f64),
     Refused(u32),

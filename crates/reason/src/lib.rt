@@ -1,4 +1,6 @@
 // Why a solve refuses, or that it does not.
+#![tactic(auto)]
+
 ghost use Rattle.std.specs.Prelude.{◌≡◌};
 ghost use Rattle.reason.specs.Reasons.{reason_number};
 
@@ -7,7 +9,7 @@ use table::Entry;
 
 // What is amiss with the bracket that trials are to go on from: an end and its place, with the judgement worked out
 // afresh where it is not as stated; or the count, and the most that it may be.
-#[derive(Drop)]
+#[derive(Clone, Copy)]
 pub enum Amiss {
     LoOffGrid(i64),
     HiOffGrid(i64),
@@ -20,14 +22,14 @@ pub enum Amiss {
 }
 
 // Why a neighbour has no time: it is the grid's own end, or this range test of its trial fails.
-#[derive(Drop)]
+#[derive(Clone, Copy)]
 pub enum Stop {
     EndOfGrid,
     Test(Entry),
 }
 
 // Two neighbours with their times, and the number of trials.
-#[derive(Drop)]
+#[derive(Clone, Copy)]
 pub struct Neighbours {
     pub lo: i64,
     pub below: f64,
@@ -38,7 +40,7 @@ pub struct Neighbours {
 
 // A test ahead of the trials or of the result; a bracket to go on from; the neighbours, and why one has no time; for a
 // transfer time the range test alone; the bracket that a limit stopped the trials at; the settings' refusal. Or solved.
-#[derive(Drop)]
+#[derive(Clone, Copy)]
 pub enum Reason {
     Test(Entry),
     Amiss(Amiss),

@@ -1,5 +1,7 @@
 // The line that the desk gives for a reason, put at the front of a lent buffer, whose room the caller tests: 512 bytes
 // hold every line. What is answered is the line's length.
+#![tactic(auto)]
+
 ghost use Rattle.text.specs.Pieces.{Laid};
 ghost use Rattle.reasons.specs.Lines.{test_pieces, stop_pieces, because_pieces, neighbour_pieces, timed_pieces, between_pieces, reason_pieces};
 

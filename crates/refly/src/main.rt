@@ -1,6 +1,8 @@
 // Flies a session again: the file that the first word names, with mu of the earth and of the moon as the next two, or the
 // usual ones. The account goes to standard output, a line at a time; where the session or a number cannot be read, a
 // message goes to standard error and nothing to standard output.
+#![tactic(auto)]
+
 use account::{Made, Next};
 use flight::Mu;
 use libc::STDERR_FILENO;

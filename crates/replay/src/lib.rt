@@ -1,25 +1,27 @@
 // A session flown again from its records: one state a vehicle, and one step a record. All is handed in and back by value.
+#![tactic(auto)]
+
 ghost use Rattle.std.specs.Prelude.{◌≡◌};
 ghost use Rattle.replay.specs.Replay.{vehicle_of, with_of, burn_from, met_of, both_of, pair_from, refused_of, state_step, burn_step, mark_step, step_of};
 
 use flight::{Flight, Flown, Mu};
 use session::{BurnRecord, MarkRecord, Record, StateRecord};
 
-#[derive(Drop)]
+#[derive(Clone, Copy)]
 pub enum Vehicle {
     Unset,
     Set(Flight),
 }
 
 // The two vehicles.
-#[derive(Drop)]
+#[derive(Clone, Copy)]
 pub struct Replay {
     pub v0: Vehicle,
     pub v1: Vehicle,
 }
 
 // What a record came to: a state is set, a burn is done, a mark is off by so much, or its number.
-#[derive(Drop)]
+#[derive(Clone, Copy)]
 pub enum Answer {
     Set,
     Done,
@@ -27,14 +29,14 @@ pub enum Answer {
     Refused(u32),
 }
 
-#[derive(Drop)]
+#[derive(Clone, Copy)]
 pub struct Stepped {
     pub replay: Replay,
     pub answer: Answer,
 }
 
 // Where both come to.
-#[derive(Drop)]
+#[derive(Clone, Copy)]
 pub enum Pair {
     Both(Flight, Flight),
     Refused(u32),

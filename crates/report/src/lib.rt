@@ -1,4 +1,6 @@
 // The whole listing of a session: whole lines, as many as fit, into a large lent buffer, and where to go on.
+#![tactic(auto)]
+
 ghost use Rattle.std.specs.Prelude.{◌≤◌, ◌≡◌, length};
 ghost use Rattle.report.specs.Listing.{is_done, step_at, step_of, Stepped, Fills, FillOf, made_length};
 
@@ -6,7 +8,7 @@ use session::{Place, Reading};
 use text::Made;
 
 // What the next line is: the heading, that of what stands at a place, or none.
-#[derive(Drop)]
+#[derive(Clone, Copy)]
 pub enum Next {
     Heading,
     At(Place),
@@ -14,14 +16,14 @@ pub enum Next {
 }
 
 // How many bytes of the buffer are filled, and what comes next.
-#[derive(Drop)]
+#[derive(Clone, Copy)]
 pub struct Filled {
     pub length: usize,
     pub next: Next,
 }
 
 // What is filled, or the number of the refusal.
-#[derive(Drop)]
+#[derive(Clone, Copy)]
 pub enum Filling {
     Lines(Filled),
     Refused(u32),

@@ -1,4 +1,6 @@
 // A line of the desk, read: which routine it asks, and with what.
+#![tactic(auto)]
+
 ghost use Rattle.std.specs.Prelude.{◌≡◌};
 ghost use Rattle.words.specs.Words.{word_at};
 ghost use Rattle.forms.specs.Forms.{read_by};

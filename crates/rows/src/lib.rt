@@ -1,5 +1,7 @@
 // Rows 1 to 5 of the refusal table, which look at an input alone, the components that row 9 looks at too, and the radius of
 // row 22.
+#![tactic(auto)]
+
 ghost use Rattle.std.specs.Prelude.{◌≡◌};
 ghost use Rattle.table.specs.declared.Test.TheVariants.{Passed};
 ghost use Rattle.table.specs.Tests.{◌▷◌};

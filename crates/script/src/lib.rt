@@ -1,4 +1,6 @@
 // A session as text: each record twice, as a comment for people and as a line that can be written again.
+#![tactic(auto)]
+
 mod records;
 
 ghost use Rattle.text.specs.Pieces.{Laid};
@@ -10,7 +12,7 @@ use session::{Place, Reading};
 
 // How many bytes the lines of a record have, and where to go on; how many the last line has, which is none at the
 // session's end; or the number of the refusal.
-#[derive(Drop)]
+#[derive(Clone, Copy)]
 pub enum Shown {
     Lines(usize, Place),
     Last(usize),

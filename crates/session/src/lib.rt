@@ -1,4 +1,6 @@
 // The session reader: the session's bytes and a place in; a record and the next place, the end, or a refusal out.
+#![tactic(auto)]
+
 mod limit;
 mod offset;
 mod payload;
@@ -12,14 +14,14 @@ pub use offset::decode_at;
 pub use record::{BurnRecord, Decoded, Kind, MarkRecord, Record, StateRecord};
 
 // Where the reader stands, and the local offset there, in minutes.
-#[derive(Drop)]
+#[derive(Clone, Copy)]
 pub struct Place {
     pub at: usize,
     pub offset: i16,
 }
 
 // A record and the place behind it, the place behind the offset's record, the end, or a refusal with its number and place.
-#[derive(Drop)]
+#[derive(Clone, Copy)]
 pub enum Reading {
     Record(Record, Place),
     Offset(Place),

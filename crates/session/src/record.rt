@@ -10,7 +10,7 @@ use crate::payload::{are_finite, number};
 use field::{read, signed};
 use vector::{State, Vector};
 
-#[derive(Drop)]
+#[derive(Clone, Copy)]
 pub struct StateRecord {
     pub vehicle: u8,
     pub body: u8,
@@ -18,14 +18,14 @@ pub struct StateRecord {
     pub state: State,
 }
 
-#[derive(Drop)]
+#[derive(Clone, Copy)]
 pub struct BurnRecord {
     pub vehicle: u8,
     pub time: i64,
     pub change: Vector,
 }
 
-#[derive(Drop)]
+#[derive(Clone, Copy)]
 pub struct MarkRecord {
     pub vehicle: u8,
     pub time: i64,
@@ -33,7 +33,7 @@ pub struct MarkRecord {
     pub rate: f64,
 }
 
-#[derive(Drop)]
+#[derive(Clone, Copy)]
 pub enum Record {
     State(StateRecord),
     Burn(BurnRecord),
@@ -41,28 +41,28 @@ pub enum Record {
 }
 
 // A record and its length, the local offset that its own record sets, or the number of the refusal.
-#[derive(Drop)]
+#[derive(Clone, Copy)]
 pub enum Decoded {
     Whole(Record, usize),
     Offset(i16),
     Refused(u32),
 }
 
-#[derive(Drop)]
+#[derive(Clone, Copy)]
 pub enum Kind {
     State,
     Burn,
     Mark,
 }
 
-#[derive(Drop)]
+#[derive(Clone, Copy)]
 pub enum Found {
     Known(Kind),
     Unknown,
 }
 
 // What the tests of a record find.
-#[derive(Drop)]
+#[derive(Clone, Copy)]
 pub enum Head {
     Good(Kind),
     Bad(u32),
@@ -70,7 +70,7 @@ pub enum Head {
 
 // How a kind's records are built: their length, how many numbers they have, and the greatest value of the byte
 // behind the vehicle.
-#[derive(Drop)]
+#[derive(Clone, Copy)]
 pub struct Shape {
     pub length: usize,
     pub count: usize,

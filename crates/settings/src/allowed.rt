@@ -7,7 +7,7 @@ ghost use Rattle.settings.specs.Allowed.{finite_row, fraction_row, fractions_row
 use table::{Name, Part, Test};
 
 // A body (0 earth, 1 moon), its constants, and the two fractions of the grades.
-#[derive(Drop)]
+#[derive(Clone, Copy)]
 pub struct Setting {
     pub body: u64,
     pub mu: f64,

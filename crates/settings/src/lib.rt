@@ -1,5 +1,7 @@
 // Settings that keep their history: the grades' two fractions and the body constants as versions in a lent buffer. A new
 // version is one more than the latest; none is changed, and an old one comes back as a copy under the next number.
+#![tactic(auto)]
+
 mod allowed;
 mod layout;
 
@@ -10,14 +12,14 @@ pub use allowed::{Setting, refusal_of};
 use layout::{is_whole, put_version, setting_of};
 
 // A version's setting, or the number of the refusal.
-#[derive(Drop)]
+#[derive(Clone, Copy)]
 pub enum Looked {
     Found(Setting),
     Refused(u32),
 }
 
 // The number of the version that was stored and the place behind it, or the number of the refusal.
-#[derive(Drop)]
+#[derive(Clone, Copy)]
 pub enum Stored {
     Version(u64, usize),
     Refused(u32),

@@ -1,5 +1,7 @@
 // Shows the session on standard input as text that can be read, edited and written again. Where the session cannot be
 // read, a message goes to standard error and nothing to standard output.
+#![tactic(auto)]
+
 use libc::STDIN_FILENO;
 use script::Shown;
 use session::Place;

@@ -1,4 +1,6 @@
 // The sight line of an elevation: where it comes as near to the centre as the passive vehicle is.
+#![tactic(auto)]
+
 ghost use Rattle.std.specs.Prelude.{◌≡◌};
 ghost use Rattle.table.specs.declared.Test.TheVariants.{Passed};
 ghost use Rattle.table.specs.Tests.{◌▷◌};
@@ -9,7 +11,7 @@ use vector::Vector;
 use wheel::{Direction, Elevation};
 
 // The sight line's unit vector u, b = A·u, and what stands under the root.
-#[derive(Drop)]
+#[derive(Clone, Copy)]
 struct Line {
     u: Vector,
     b: f64,
@@ -17,7 +19,7 @@ struct Line {
 }
 
 // Both k, the larger first, and their points.
-#[derive(Drop)]
+#[derive(Clone, Copy)]
 pub struct Points {
     pub larger: f64,
     pub smaller: f64,
@@ -25,7 +27,7 @@ pub struct Points {
     pub second: Vector,
 }
 
-#[derive(Drop)]
+#[derive(Clone, Copy)]
 pub enum Sight {
     Crossed(Points),
     Refused(u32),

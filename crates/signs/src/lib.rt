@@ -1,4 +1,6 @@
 // A signed number taken apart: its sign, and its magnitude.
+#![tactic(auto)]
+
 ghost use Rattle.std.specs.Prelude.{◌<◌, ◌^◌, ◌≡◌};
 ghost use Rattle.std.specs.Int.Signed.{mag};
 ghost use Rattle.signs.specs.Sign.{negative};

@@ -1,4 +1,6 @@
 // The line of a single trial, read behind its name, part by part.
+#![tactic(auto)]
+
 ghost use Rattle.std.specs.Prelude.{◌≡◌};
 ghost use Rattle.forms.specs.Forms.{read_by};
 ghost use Rattle.single.specs.Single.{trial_counted, trial_judged, trial_between, trial_form};

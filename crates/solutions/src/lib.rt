@@ -1,5 +1,7 @@
 // The iterated solves' answers as lines, each put at the front of a lent buffer, whose room the caller tests: 512 bytes
 // hold every line. What is answered is the line's length.
+#![tactic(auto)]
+
 ghost use Rattle.text.specs.Text.{Put};
 ghost use Rattle.text.specs.Pieces.{Laid};
 ghost use Rattle.solutions.specs.Solutions.{grade_text, count_pieces, times_pieces, graded_pieces, done_pieces, turned_pieces, orbit_pieces, transfer_pieces, advanced_pieces, transferred_pieces};

@@ -1,11 +1,10 @@
 -- Trials under a limit, once for Kepler and Lambert: raising the limit never alters what they come to but 'not finished'; from the start
 -- a limit of 74 and 52 or more is no limit; and stopped and continued they are one run. Assumes nothing.
-use Prim.Native.Nat.{ℕ, ◌≤◌, ◌<◌}
+use Prim.Native.Nat.{ℕ, ◌≤◌, ◌<◌, zero-le}
 use native.Mathlib.Omega.{arith}
 use mathlib.Core.Path.{◌≡◌, refl, sym, ap, ◌∙◌}
 use mathlib.Core.Bool.{Bool, true, false, cond}
 use borrow.Author.Tests.{ltb-false, lt-ltb, le-ltb}
-use borrow.Author.Rules.{zero≤}
 use lib.Dec.{lit≤}
 use lib.Signed.{lt_z_yes}
 use lib.Ieee.{Float}
@@ -88,8 +87,8 @@ outcome-short problem size asked limit k =
     short : (problem : Problem) → limit < (last_of problem asked).count
         → (1 < width_of (stopped_of problem asked limit (start_of problem)).lo (stopped_of problem asked limit (start_of problem)).hi)
         × ((stopped_of problem asked limit (start_of problem)).count ≡ limit)
-    short (Kepler m) k = not-enough (judge_of (Kepler m) asked) asked limit (start_of (Kepler m)) (lt_z_yes tt) zero≤ k
-    short (Lambert d) k = not-enough (judge_of (Lambert d) asked) asked limit (start_of (Lambert d)) (lt_z_yes tt) zero≤ k
+    short (Kepler m) k = not-enough (judge_of (Kepler m) asked) asked limit (start_of (Kepler m)) (lt_z_yes tt) zero-le k
+    short (Lambert d) k = not-enough (judge_of (Lambert d) asked) asked limit (start_of (Lambert d)) (lt_z_yes tt) zero-le k
 
 -- without a limit it is finished
 pub never-stopped : (problem : Problem) (size asked : Float) (b : Bracket) → outcome_of problem size asked ≡ O.NotFinished b → ⊥

@@ -1,5 +1,7 @@
 // A solve as it stands in a line: its name, and what it is given. The name is behind the line's first k words, and what
 // it is given behind one more.
+#![tactic(auto)]
+
 ghost use Rattle.std.specs.Prelude.{◌+◌, ◌^◌, ◌≤◌, ◌<◌};
 ghost use Rattle.solves.specs.Solves.{kepler_form, lambert_form, theta_form, apsides_form, solve_form, Gives, ReadsNormal, ReadsWay};
 
@@ -9,14 +11,14 @@ use options::Options;
 use vector::{State, Vector};
 
 // What a solve is given, or the number of the first word that cannot be read.
-#[derive(Drop)]
+#[derive(Clone, Copy)]
 pub enum Given {
     Read(Solve),
     Unread(u64),
 }
 
 // The way round and how many words of the line it ends, or the number of the first word that cannot be read.
-#[derive(Drop)]
+#[derive(Clone, Copy)]
 enum Round {
     Read(Way, u32),
     Unread(u64),

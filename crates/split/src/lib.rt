@@ -1,11 +1,13 @@
 // Lines of an input that comes in parts. The front of a line whose newline is still to come is kept in a lent room, as
 // much of it as the room has bytes.
+#![tactic(auto)]
+
 ghost use Rattle.std.specs.Prelude.{◌≡◌, drop};
 ghost use Rattle.split.specs.Split.{found_of, room_of};
 
 // A line with its length in the room and the place behind its newline in the part; or the part has no newline more, and
 // so many bytes are kept.
-#[derive(Drop)]
+#[derive(Clone, Copy)]
 pub enum Found {
     Line(usize, usize),
     Kept(usize),

@@ -1,5 +1,7 @@
 // A session that comes in parts of whatever length, as over a serial line: the records that end in each part, one at a
 // time. The front of an unfinished record, at most 61 bytes, is kept in a lent room of 62.
+#![tactic(auto)]
+
 ghost use Rattle.std.specs.Prelude.{◌+◌, ◌-◌, ◌≤◌, ◌<◌, ◌≡◌, true, cond, length, take, drop, ltb};
 ghost use Rattle.text.specs.Text.{Stands};
 ghost use Rattle.session.specs.Limits.{offset_allowed};
@@ -13,7 +15,7 @@ const LIMIT: usize = 0x7fff_ffff_ffff_ffff;
 
 // Where the reader stands: it goes on, with the place of the unfinished record from the start of the session, the local
 // offset there, and how many of the record's bytes are kept; or it has stopped, with its last answer.
-#[derive(Drop)]
+#[derive(Clone, Copy)]
 pub enum Standing {
     Open(Place, usize),
     Refused(u8, usize),
@@ -22,7 +24,7 @@ pub enum Standing {
 
 // A record or the offset's record, the place behind it in the session, where the reader is open with nothing kept, and
 // the place behind it in the part; or no more from this part: an open reader waits for the next.
-#[derive(Drop)]
+#[derive(Clone, Copy)]
 pub enum Step {
     Record(Record, Place, usize),
     Offset(Place, usize),

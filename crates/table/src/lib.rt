@@ -1,12 +1,14 @@
 // The refusal table as a list of tests. A test is an entry: its row's number, the number it looks at, its amount, and what
 // it must be. A routine makes its entries one after another, in the order written; the first that fails is kept, and
 // the rest are passed over. A routine that only refuses keeps the row's number; whoever asks why is shown the entry.
+#![tactic(auto)]
+
 ghost use Rattle.std.specs.Prelude.{◌≡◌, [], ◌∷◌};
 ghost use Rattle.table.specs.declared.Limit.TheVariants as L;
 ghost use Rattle.table.specs.Tests.{entry, told, ◌▷◌};
 
 // The inputs, then the derived numbers, then the numbers of a trial.
-#[derive(Drop)]
+#[derive(Clone, Copy)]
 pub enum Name {
     Mu,
     Position,
@@ -46,7 +48,7 @@ pub enum Name {
 }
 
 // A component of a vector, its length, or the whole of what is no vector.
-#[derive(Drop)]
+#[derive(Clone, Copy)]
 pub enum Part {
     X,
     Y,
@@ -56,7 +58,7 @@ pub enum Part {
 }
 
 // What an amount must be.
-#[derive(Drop)]
+#[derive(Clone, Copy)]
 pub enum Limit {
     Finite,
     AtLeast(f64),
@@ -68,7 +70,7 @@ pub enum Limit {
     OneWithin(f64),
 }
 
-#[derive(Drop)]
+#[derive(Clone, Copy)]
 pub struct Entry {
     pub number: u32,
     pub name: Name,
@@ -78,7 +80,7 @@ pub struct Entry {
 }
 
 // What the entries so far come to: all are met, or this is the first that is not.
-#[derive(Drop)]
+#[derive(Clone, Copy)]
 pub enum Test {
     Passed,
     Failed(Entry),

@@ -1,12 +1,14 @@
 // Text put into a lent buffer at a place: the whole of it where it fits, and no byte of it where it does not.
 // Each routine answers the place behind the text, or NOWHERE, where no later text fits either.
+#![tactic(auto)]
+
 ghost use Rattle.std.specs.Prelude.{◌+◌, ◌%◌, ◌≤◌, ◌<◌, ◌≡◌, [], ◌∷◌, length, leb};
 ghost use Rattle.text.specs.Text.{Stands, Put, digit_text, digits, decimal, signed_text};
 
 pub const NOWHERE: usize = 0xffff_ffff_ffff_ffff;
 
 // How long a line at the front of a buffer is, or the number of the refusal.
-#[derive(Drop)]
+#[derive(Clone, Copy)]
 pub enum Made {
     Line(usize),
     Refused(u32),

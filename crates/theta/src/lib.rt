@@ -1,4 +1,6 @@
 // Time-Theta: a state and an angle give the time from the one end of the angle to the other.
+#![tactic(auto)]
+
 ghost use Rattle.std.specs.Prelude.{◌≡◌};
 ghost use Rattle.table.specs.declared.Test.TheVariants.{Passed};
 ghost use Rattle.table.specs.Tests.{◌▷◌, first_failing};
@@ -9,7 +11,7 @@ use table::{Name, Part, Test};
 use vector::State;
 
 // The derived numbers: excess is (cos² + sin²) − 1, versine is 1 − cos, pn is p_N, and cothalf is sin/(1 − cos).
-#[derive(Drop)]
+#[derive(Clone, Copy)]
 pub struct Sweep {
     pub r1: f64,
     pub excess: f64,
@@ -21,14 +23,14 @@ pub struct Sweep {
 }
 
 // The time, and the state it was asked about, unchanged.
-#[derive(Drop)]
+#[derive(Clone, Copy)]
 pub struct Timed {
     pub time: f64,
     pub state: State,
 }
 
 // A time, too long, too short, or refused with its number.
-#[derive(Drop)]
+#[derive(Clone, Copy)]
 pub enum TransferTime {
     Time(Timed),
     TooLong,

@@ -1,5 +1,7 @@
 // The lines of a replay, each put at the front of a lent buffer, whose room the caller tests: 512 bytes hold every line.
 // What is answered is the line's length.
+#![tactic(auto)]
+
 ghost use Rattle.text.specs.Text.{Put};
 ghost use Rattle.text.specs.Pieces.{Laid};
 ghost use Rattle.lines.specs.Days.{local_of};

@@ -1,5 +1,7 @@
 // The trials that are made for a problem: where they begin, and where they end, at neighbours or at a limit. One loop serves
 // both problems.
+#![tactic(auto)]
+
 ghost use Rattle.std.specs.Prelude.{◌≡◌, true, ◌+◌, ◌<◌, ◌^◌};
 ghost use Rattle.table.specs.Tests.{◌▷◌};
 ghost use Rattle.iterator.specs.Rule.{Grid, width_of};
@@ -16,7 +18,7 @@ use reason::Amiss;
 use table::{Entry, Name, Test};
 
 // The bracket to begin with, or why trials cannot go on from a stopped one.
-#[derive(Drop)]
+#[derive(Clone, Copy)]
 pub enum Begun {
     At(Bracket),
     Wrong(Amiss),
@@ -24,7 +26,7 @@ pub enum Begun {
 
 // Where the trials ended: at neighbours, or at the limit. Or what ended the solve ahead of them: a test that fails, or
 // what is amiss with the bracket to go on from.
-#[derive(Drop)]
+#[derive(Clone, Copy)]
 pub enum Ended {
     Refused(Entry),
     Wrong(Amiss),
@@ -32,7 +34,7 @@ pub enum Ended {
 }
 
 // A bracket as the loop holds it, its judgements as plain numbers: low or under at lo, and high or over at hi.
-#[derive(Drop)]
+#[derive(Clone, Copy)]
 struct Span {
     lo: i64,
     hi: i64,
@@ -130,10 +132,10 @@ fn width(s: Span) -> u64
 
 // The next trial's point, in a bracket w wide.
 fn point(asked: f64, s: Span, w: u64) -> i64
-    requires fact_1 { Grid s.lo s.hi }
-    requires fact_2 { w ≡ width_of s.lo s.hi }
-    requires fact_3 { 1 < w }
-    requires fact_4 { s.count + 1 < 2 ^ 64 }
+    requires on_grid { Grid s.lo s.hi }
+    requires its_width { w ≡ width_of s.lo s.hi }
+    requires not_neighbours { 1 < w }
+    requires count_fits { s.count + 1 < 2 ^ 64 }
     ensures { result ≡ next_point asked (bracket_of s) }
 {
     let d = iterator::stride(asked, w, below_of(s), above_of(s), s.count + 1);
@@ -143,10 +145,10 @@ fn point(asked: f64, s: Span, w: u64) -> i64
 // While hi - lo > 1 and the count is under the limit a trial is made: its point, by the iterator's rule, is judged and
 // narrows the bracket, whatever the judge says.
 fn iterate(problem: Problem, asked: f64, limit: u64, start: Bracket) -> Bracket
-    requires fact_1 { in_grid start.lo start.hi ≡ true }
-    requires fact_2 { is_below start.below ≡ true }
-    requires fact_3 { is_above start.above ≡ true }
-    requires fact_4 { start.count + width_of start.lo start.hi < 2 ^ 64 }
+    requires on_grid { in_grid start.lo start.hi ≡ true }
+    requires lower_end { is_below start.below ≡ true }
+    requires upper_end { is_above start.above ≡ true }
+    requires count_fits { start.count + width_of start.lo start.hi < 2 ^ 64 }
     ensures { result ≡ run_to (judge_of problem asked) asked limit start }
 {
     let mut s = span_of(start);

@@ -1,9 +1,11 @@
 // Vectors and states.
+#![tactic(auto)]
+
 ghost use Rattle.std.specs.Prelude.{◌≡◌};
 ghost use Rattle.vector.specs.Vectors.{position_of, velocity_of, state_of, dot_of, cross_of, length_of, scaled_of, sum_of, difference_of, divided_of, negated_of};
 
 // Three numbers.
-#[derive(Drop)]
+#[derive(Clone, Copy)]
 pub struct Vector {
     pub x: f64,
     pub y: f64,
@@ -11,7 +13,7 @@ pub struct Vector {
 }
 
 // A state: three of position, three of velocity.
-#[derive(Drop)]
+#[derive(Clone, Copy)]
 pub struct State {
     pub rx: f64,
     pub ry: f64,

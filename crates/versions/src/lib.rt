@@ -1,4 +1,6 @@
 // The settings' versions as lines, each made at the front of a lent buffer whose bytes past them stay.
+#![tactic(auto)]
+
 ghost use Rattle.text.specs.Text.{InFront};
 ghost use Rattle.text.specs.Pieces.{Laid};
 ghost use Rattle.versions.specs.Versions.{constant_pieces, version_pieces, looked_pieces, version_lines, list_pieces, show_room, show_text, list_room, list_text};

@@ -1,5 +1,7 @@
 // The answers of the thumbwheel and of the sight line as lines, each put at the front of a lent buffer, whose room the
 // caller tests: 512 bytes hold every line. What is answered is the line's length.
+#![tactic(auto)]
+
 ghost use Rattle.text.specs.Pieces.{Laid};
 ghost use Rattle.views.specs.Views.{direction_pieces, points_pieces, wheel_pieces, sight_pieces};
 

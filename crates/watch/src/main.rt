@@ -1,6 +1,8 @@
 // Lists a session as it comes on standard input, from a serial line or a pipe: each line of the listing is written as soon
 // as its record is whole, and a refusal as soon as it is certain, though the input stays open. The reading is in `stream`,
 // the lines are in `follow`.
+#![tactic(auto)]
+
 ghost use Rattle.watch.specs.Feeds.{Feeds};
 
 use session::Place;
@@ -25,7 +27,7 @@ fn write_step(step: Step) -> bool {
 }
 
 // Where the reader stands behind some input; or something could not be read or written, and standard error says what.
-#[derive(Drop)]
+#[derive(Clone, Copy)]
 enum Fed {
     Read(Standing),
     Failed,

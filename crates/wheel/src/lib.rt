@@ -1,17 +1,19 @@
 // The elevation thumbwheel: sine and cosine of a whole number of tenths of a degree, from one table of a quarter turn.
+#![tactic(auto)]
+
 mod table;
 
 ghost use Rattle.std.specs.Prelude.{◌≡◌, ◌<◌};
 ghost use Rattle.wheel.specs.Wheel.{on_by, signed_sine, over_of, direction_of, wheel_of};
 
 // Signed entries over 2^30.
-#[derive(Drop)]
+#[derive(Clone, Copy)]
 pub struct Direction {
     pub sine: f64,
     pub cosine: f64,
 }
 
-#[derive(Drop)]
+#[derive(Clone, Copy)]
 pub enum Elevation {
     Angle(Direction),
     Refused(u32),

@@ -1,4 +1,6 @@
 // Why a solve by trials refuses, or that it does not: the solve's own tests and trials, told. No test and no formula stands here.
+#![tactic(auto)]
+
 ghost use Rattle.std.specs.Prelude.{◌≡◌};
 ghost use Rattle.iterator.specs.Single.{more_left};
 ghost use Rattle.iterator.specs.Run.{more};
@@ -14,7 +16,7 @@ use trials::Ended;
 use vector::{State, Vector};
 
 // The neighbours with their times, or why there are no two.
-#[derive(Drop)]
+#[derive(Clone, Copy)]
 enum Told {
     Timed(Neighbours),
     Not(Reason),

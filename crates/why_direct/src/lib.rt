@@ -1,4 +1,6 @@
 // Why a solve that makes no trials refuses, or that it does not: its own tests, told. No test and no formula stands here.
+#![tactic(auto)]
+
 ghost use Rattle.std.specs.Prelude.{◌≡◌};
 ghost use Rattle.why_direct.specs.Why.{why_time, why_apsides};
 

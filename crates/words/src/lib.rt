@@ -1,10 +1,12 @@
 // The words of a line: what stands between blanks.
+#![tactic(auto)]
+
 ghost use Rattle.std.specs.Prelude.{◌≤◌, ◌≡◌, length};
 ghost use Rattle.words.specs.Words.{is_of, word_at, is_end, starts_with, is_word};
 ghost use Rattle.words.specs.Found.{Found};
 
 // What a search looks for: a blank, any byte but a blank, the point.
-#[derive(Drop)]
+#[derive(Clone, Copy)]
 pub enum Byte {
     Blank,
     NotBlank,

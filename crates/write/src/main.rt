@@ -1,5 +1,7 @@
 // A session's text on standard input, its bytes on standard output: all of them at the end of the input, and none where
 // a line cannot be read or is refused. Standard error then names the line.
+#![tactic(auto)]
+
 ghost use Rattle.std.specs.Prelude.{◌≤◌, length};
 ghost use Rattle.write.specs.Feed.{Inside, Feeds, Holds};
 
@@ -13,7 +15,7 @@ const KEPT: usize = 1001;
 
 // What comes of some input: the bytes kept of a line whose newline is still to come, the place behind the records and
 // how many lines were read; or what ended it.
-#[derive(Drop)]
+#[derive(Clone, Copy)]
 enum Fed {
     Kept(usize, usize, u64),
     Stopped(Progress),
@@ -80,7 +82,7 @@ fn finish(session: &mut [u8], at: usize, count: u64, rest: &[u8])
 }
 
 // What is kept after a read, or the end.
-#[derive(Drop)]
+#[derive(Clone, Copy)]
 enum Taken {
     More(usize, usize, u64),
     Done,

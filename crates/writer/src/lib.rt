@@ -1,4 +1,6 @@
 // The session writer: a record at a place of a lent buffer, after those that are there already.
+#![tactic(auto)]
+
 mod numbers;
 mod offset;
 mod put;

@@ -11,13 +11,13 @@ use crate::put::put_field;
 use session::{Record, time_allowed};
 
 // The place behind the record, or the number of the refusal.
-#[derive(Drop)]
+#[derive(Clone, Copy)]
 pub enum Written {
     Next(usize),
     Refused(u32),
 }
 
-#[derive(Drop)]
+#[derive(Clone, Copy)]
 pub struct Header {
     pub length: usize,
     pub number: u64,

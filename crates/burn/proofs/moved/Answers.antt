@@ -1,0 +1,9 @@
+-- `burn::moved` meets its contract. Assumes nothing.
+use mathlib.Core.Path.{ap, ◌∙◌}
+use Rattle.burn.specs.Burn.{kept_of, moved_of}
+use borrow.Author.Rules.{rules}
+use Rattle.burn.proofs.moved.Goals as goal
+
+pub returns : goal.returns
+unfolding moved_of
+returns c = c.kept.ensures ∙ ap kept_of c.advance.ensures

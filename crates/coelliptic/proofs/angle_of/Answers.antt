@@ -1,0 +1,8 @@
+-- `coelliptic::angle_of` meets its contract. Assumes nothing.
+use Rattle.coelliptic.specs.Coelliptic.{angle_of}
+use borrow.Author.Rules.{rules}
+use Rattle.coelliptic.proofs.angle_of.Goals as goal
+
+pub returns : goal.returns
+unfolding angle_of
+returns c = cc

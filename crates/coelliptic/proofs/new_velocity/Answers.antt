@@ -1,0 +1,8 @@
+-- `coelliptic::new_velocity` meets its contract. Assumes nothing.
+use Rattle.coelliptic.specs.Coelliptic.{new_of}
+use borrow.Author.Rules.{rules}
+use Rattle.coelliptic.proofs.new_velocity.Goals as goal
+
+pub returns : goal.returns
+unfolding new_of
+returns c = simp (c.sum.ensures, c.scaled-2.ensures, c.scaled.ensures, c.square_root-horizontal.ensures, c.cross-across.ensures, c.normal.ensures, c.unit-w.ensures, c.position.ensures)

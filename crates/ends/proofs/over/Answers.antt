@@ -1,0 +1,10 @@
+-- Five pieces. Assumes nothing.
+use borrow.Author.Rules.{rules}
+use Rattle.text.specs.Pieces.{then}
+use Rattle.text.proofs.Lays.{one}
+use Rattle.ends.specs.Ends.{over_pieces}
+use Rattle.ends.proofs.over.Goals as goal
+
+pub returns : goal.returns
+unfolding over_pieces
+returns c = then c.bytes-a.ensures (then c.number-b.ensures (then c.bytes-c.ensures (then c.number-d.ensures (one c.byte.ensures))))

@@ -1,0 +1,14 @@
+-- Three pieces. Assumes nothing.
+use borrow.Author.Rules.{rules}
+use mir.Syntax.{w64}
+use mir.Facts.{to_z-of_z}
+use Rattle.text.specs.Pieces.{then}
+use Rattle.text.proofs.Lays.{one}
+use Rattle.ends.specs.Ends.{place_pieces}
+use Rattle.ends.proofs.place.Goals as goal
+
+pub returns : goal.returns
+unfolding place_pieces
+returns c =
+    let z = to_z-of_z {w = w64} {z = c.args.n} c.ranges.n in
+    then c.bytes-a.ensures (then (rw z at c.signed-b.ensures) (one c.bytes.ensures))

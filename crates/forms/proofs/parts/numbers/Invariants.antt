@@ -1,0 +1,15 @@
+-- Each turn reads one number more. Assumes nothing.
+use Prim.Native.Nat.{◌-◌}
+use mathlib.Core.Path.{◌≡◌, refl, ap, ◌∙◌}
+use lib.ListN.{length, length-set}
+use Rattle.numerals.specs.Numbers.{word_number}
+use Rattle.forms.proofs.Rows.{Got, got-none, got-more, got-bad, got-all}
+use borrow.Author.Rules.{rules}
+use native.Mathlib.Omega.{arith}
+use Rattle.forms.proofs.parts.numbers.Given as goal
+
+abbrev pub invariant-loop-i : goal.invariant-loop-i
+invariant-loop-i l = (length l.xs ≡ length l.initial.xs) × Got l.line l.k l.xs l.i
+
+abbrev pub decreases-loop-i : goal.decreases-loop-i
+decreases-loop-i l = length l.xs - l.i

@@ -1,0 +1,10 @@
+-- By the numbers, and by the word behind them. Assumes nothing.
+use Rattle.forms.proofs.Rows.{only-bad, only-all, only-more}
+use borrow.Author.Rules.{rules}
+use Rattle.forms.proofs.parts.only_numbers.Goals as goal
+
+pub returns-then-is_end : goal.returns-then-is_end
+returns-then-is_end c = only-all _ _ _ _ c.numbers-w.ensures c.if-w-ne0.false c.is_end.ensures c.if-is_end.true
+
+pub returns : goal.returns
+returns c = only-more _ _ _ _ c.numbers-w.ensures c.if-w-ne0.false c.is_end.ensures c.if-is_end.false

@@ -1,0 +1,15 @@
+-- The loop has put the first i; the measure is what is left. Assumes nothing.
+use Prim.Native.Nat.{◌-◌, ◌≤◌}
+use mathlib.Core.Path.{◌≡◌, refl}
+use mathlib.Core.List.{◌++◌}
+use lib.ListN.{length, take, drop}
+use native.Mathlib.Omega.{arith}
+use native.Mathlib.Numerals.{add-one}
+use Rattle.lent.proofs.Fills.{filled, sized, all}
+use Rattle.lent.proofs.putting.copy_numbers.Given as goal
+
+abbrev pub invariant-loop-i : goal.invariant-loop-i
+invariant-loop-i l = (l.n ≡ length l.xs) × (l.n ≤ 16) × (l.i ≤ l.n) × (length l.xs ≤ length l.initial.out) × (l.out ≡ take l.i l.xs ++ drop l.i l.initial.out)
+
+abbrev pub decreases-loop-i : goal.decreases-loop-i
+decreases-loop-i l = l.n - l.i

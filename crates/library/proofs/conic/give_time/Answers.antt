@@ -1,0 +1,22 @@
+-- By the case of the answer. Assumes nothing.
+use native.Mathlib.Omega.{arith}
+use Rattle.library.specs.Answers.{transfer_time_told}
+use Rattle.lent.proofs.Gives.{put-numbers, left-numbers}
+use borrow.Author.Rules.{rules}
+use Rattle.library.proofs.conic.give_time.Goals as goal
+
+pub returns-in-Time : goal.returns-in-Time
+unfolding transfer_time_told
+returns-in-Time c = rw c.in-Time.is (put-numbers c.put_numbers.ensures (omega arith, omega arith))
+
+pub returns-in-TooLong : goal.returns-in-TooLong
+unfolding transfer_time_told
+returns-in-TooLong c = rw c.in-TooLong.is left-numbers
+
+pub returns-in-TooShort : goal.returns-in-TooShort
+unfolding transfer_time_told
+returns-in-TooShort c = rw c.in-TooShort.is left-numbers
+
+pub returns-in-Refused : goal.returns-in-Refused
+unfolding transfer_time_told
+returns-in-Refused c = rw c.in-Refused.is left-numbers

@@ -1,0 +1,7 @@
+-- The word, and the number behind it. Assumes nothing.
+use borrow.Author.Rules.{rules}
+use Rattle.text.specs.Pieces.{then}
+use Rattle.limits.proofs.bounded.Goals as goal
+
+pub returns : goal.returns
+returns c = then c.bytes-a.ensures c.bound.ensures

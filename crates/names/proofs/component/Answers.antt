@@ -1,0 +1,8 @@
+-- Two pieces. Assumes nothing.
+use borrow.Author.Rules.{rules}
+use Rattle.text.specs.Pieces.{then}
+use Rattle.text.proofs.Lays.{one}
+use Rattle.names.proofs.component.Goals as goal
+
+pub returns : goal.returns
+returns c = then c.word-a.ensures (one c.byte.ensures)

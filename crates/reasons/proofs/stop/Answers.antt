@@ -1,0 +1,7 @@
+-- The end of the grid, or a test. Assumes nothing.
+use borrow.Author.Rules.{rules}
+use Rattle.text.proofs.Lays.{one}
+use Rattle.reasons.proofs.stop.Goals as goal
+
+pub returns-in-EndOfGrid : goal.returns-in-EndOfGrid
+returns-in-EndOfGrid c = rw c.in-EndOfGrid.is (one c.bytes.ensures)

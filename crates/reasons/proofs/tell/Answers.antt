@@ -1,0 +1,7 @@
+-- By the reason. Assumes nothing.
+use borrow.Author.Rules.{rules}
+use Rattle.text.proofs.Lays.{one}
+use Rattle.reasons.proofs.tell.Goals as goal
+
+pub returns-in-Solved : goal.returns-in-Solved
+returns-in-Solved c = rw c.in-Solved.is (one c.bytes.ensures)

@@ -1,0 +1,58 @@
+-- By the numbers read, the way, and what stands behind it. Assumes nothing.
+use mathlib.Core.Path.{◌≡◌, sym, ap, ◌∙◌}
+use lib.ListN.{length}
+use native.Mathlib.Omega.{arith}
+use Rattle.forms.specs.Forms.{numbers}
+use Rattle.forms.proofs.Rows.{first-there, first-bad}
+use Rattle.options.specs.Options.{asked}
+use Rattle.options.specs.declared.Options.{Options}
+use Rattle.solves.specs.declared.Round.{Round}
+use Rattle.solves.specs.Solves.{behind_way}
+use Rattle.solves.proofs.Lists.{lambert_ask, lambert_end, lambert_go}
+use borrow.Author.Rules.{rules}
+use Rattle.solves.proofs.lambert.Goals as goal
+
+pub returns-then-w-ne0 : goal.returns-then-w-ne0
+unfolding numbers
+returns-then-w-ne0 c =
+    let n = c.numbers-w in
+    let a = c.args in
+    let s : length n.new.1.1.0 ≡ 8 = omega (arith, n.auto.1.1.0) in
+    λ ask. sym (first-bad 8 (lambert_go ask) a.line.now a.k n.new.1.1.0 s n.ensures c.if-w-ne0.true)
+
+pub returns-in-Read-read : goal.returns-in-Read-read
+unfolding numbers
+returns-in-Read-read c =
+    let n = c.numbers-w in
+    let a = c.args in
+    let s : length n.new.1.1.0 ≡ 8 = omega (arith, n.auto.1.1.0) in
+    λ ask.
+    first-there 8 (lambert_go ask) a.line.now a.k n.new.1.1.0 s n.ensures c.if-w-ne0.false
+    ∙ c.way_at.ensures (lambert_end ask n.new.1.1.0)
+    ∙ ap (λ (r : Round). behind_way r (lambert_end ask n.new.1.1.0) a.line.now) c.in-Read.is
+    ∙ c.read.ensures (lambert_ask ask n.new.1.1.0 c.in-Read.way)
+    ∙ ap (λ (r : Options). asked r (lambert_ask ask n.new.1.1.0 c.in-Read.way)) c.in-Read-read.is
+
+pub returns-in-Unread-read : goal.returns-in-Unread-read
+unfolding numbers
+returns-in-Unread-read c =
+    let n = c.numbers-w in
+    let a = c.args in
+    let s : length n.new.1.1.0 ≡ 8 = omega (arith, n.auto.1.1.0) in
+    λ ask.
+    first-there 8 (lambert_go ask) a.line.now a.k n.new.1.1.0 s n.ensures c.if-w-ne0.false
+    ∙ c.way_at.ensures (lambert_end ask n.new.1.1.0)
+    ∙ ap (λ (r : Round). behind_way r (lambert_end ask n.new.1.1.0) a.line.now) c.in-Read.is
+    ∙ c.read.ensures (lambert_ask ask n.new.1.1.0 c.in-Read.way)
+    ∙ ap (λ (r : Options). asked r (lambert_ask ask n.new.1.1.0 c.in-Read.way)) c.in-Unread-read.is
+
+pub returns-in-Unread : goal.returns-in-Unread
+unfolding numbers
+returns-in-Unread c =
+    let n = c.numbers-w in
+    let a = c.args in
+    let s : length n.new.1.1.0 ≡ 8 = omega (arith, n.auto.1.1.0) in
+    λ ask.
+    first-there 8 (lambert_go ask) a.line.now a.k n.new.1.1.0 s n.ensures c.if-w-ne0.false
+    ∙ c.way_at.ensures (lambert_end ask n.new.1.1.0)
+    ∙ ap (λ (r : Round). behind_way r (lambert_end ask n.new.1.1.0) a.line.now) c.in-Unread.is

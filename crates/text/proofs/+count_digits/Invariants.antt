@@ -1,0 +1,5 @@
+-- The measure is the number itself.
+use Rattle.text.proofs.+count_digits.Given as goal
+
+abbrev pub decreases-count_digits : goal.decreases-count_digits
+decreases-count_digits l = l.n

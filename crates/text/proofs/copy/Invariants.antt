@@ -1,0 +1,14 @@
+-- The loop has put the first i bytes of the text; the measure is what is left of it. Assumes nothing.
+use Prim.Native.Nat.{zero-le, ◌+◌, ◌-◌, ◌≤◌}
+use native.Mathlib.Nat.{add-zero}
+use lib.ListN.{length, take}
+use Rattle.text.specs.Text.{Stands}
+use Rattle.text.proofs.Stand.{none, same_size, grow, grown}
+use native.Mathlib.Omega.{arith}
+use Rattle.text.proofs.copy.Given as goal
+
+abbrev pub invariant-loop-i : goal.invariant-loop-i
+invariant-loop-i l = (l.i ≤ length l.x) × (l.at + length l.x ≤ length l.initial.buf) × Stands l.initial.buf l.at (take l.i l.x) l.buf (l.at + l.i)
+
+abbrev pub decreases-loop-i : goal.decreases-loop-i
+decreases-loop-i l = length l.x - l.i

@@ -1,0 +1,19 @@
+-- The loop has put all digits but the first i: whoever puts those, the last i of m, gets the whole. The measure is i. Assumes nothing.
+use Prim.Native.Nat.{ℕ, ◌+◌, ◌%◌, ◌≤◌}
+use native.Mathlib.Nat.{add-zero}
+use native.Mathlib.Omega.{arith}
+use mathlib.Core.Path.{◌≡◌, refl, sym, ap, ◌∙◌}
+use mathlib.Core.List.{List}
+use lib.ListN.{length, length-set}
+use Rattle.text.specs.Text.{Stands, decimal}
+use Rattle.text.proofs.Stand.{none, last-first}
+use Rattle.text.proofs.Decimals.{lasts, lasts-more, all-lasts}
+use Rattle.text.proofs.put_digits.Given as goal
+
+abbrev pub invariant-loop-i : goal.invariant-loop-i
+invariant-loop-i l =
+    (length l.buf ≡ length l.initial.buf) × (l.at + l.i ≤ length l.buf)
+    × ((f : List ℕ) → Stands l.buf l.at (lasts l.i l.m) f (l.at + l.i) → Stands l.initial.buf l.at (decimal l.n) f (l.at + l.k))
+
+abbrev pub decreases-loop-i : goal.decreases-loop-i
+decreases-loop-i l = l.i

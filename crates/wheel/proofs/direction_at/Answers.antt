@@ -1,0 +1,9 @@
+-- `wheel::direction_at` meets its contract. Assumes nothing.
+use Rattle.std.proofs.Common.{ℕ, ◌<◌, sym, ap, ◌∙◌, subst, arith, to_z-of_z, w64, rules}
+use Rattle.wheel.specs.Wheel.{signed_sine, over_of}
+use Rattle.wheel.proofs.Quadrants.{on_below}
+use Rattle.wheel.proofs.direction_at.Goals as goal
+
+pub signed_sine-requires-2 : goal.signed_sine-requires-2
+signed_sine-requires-2 c =
+    subst (λ (k : ℕ). k < 3600) (sym c.quarter_on.ensures) (on_below 900 c.args.e (omega arith) c.requires)
