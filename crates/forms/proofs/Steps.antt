@@ -9,13 +9,9 @@ use Rattle.iterator.specs.declared.Judgement.{Judgement}
 use Rattle.words.specs.Words.{word_at, is_word, is_end}
 use Rattle.numerals.specs.Numbers.{word_number, word_signed, word_whole}
 use Rattle.numerals.specs.declared.reals.Number.{Number}
-use Rattle.numerals.specs.declared.reals.Number.TheVariants as N
 use Rattle.numerals.specs.declared.digits.Signed.{Signed}
-use Rattle.numerals.specs.declared.digits.Signed.TheVariants as S
 use Rattle.numerals.specs.declared.digits.Whole.{Whole}
-use Rattle.numerals.specs.declared.digits.Whole.TheVariants as W
 use Rattle.forms.specs.declared.judgement.Judged.{Judged}
-use Rattle.forms.specs.declared.judgement.Judged.TheVariants as J
 use Rattle.forms.specs.declared.Request.{Request}
 use Rattle.forms.specs.declared.Request.TheVariants.{Unread}
 use Rattle.forms.specs.Judgements.{word_judgement}

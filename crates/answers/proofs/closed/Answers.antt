@@ -1,7 +1,6 @@
 -- Two numbers, and their bits. Assumes nothing.
 use Rattle.text.proofs.Lays.{and_then}
 use Rattle.answers.specs.Answers.{closed_pieces}
-use borrow.Author.Rules.{rules}
 use Rattle.answers.proofs.closed.Goals as goal
 
 pub returns : goal.returns

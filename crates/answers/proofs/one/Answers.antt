@@ -1,7 +1,6 @@
 -- The number, and its bits. Assumes nothing.
 use Rattle.text.proofs.Lays.{and_then}
 use Rattle.answers.specs.Answers.{one_pieces}
-use borrow.Author.Rules.{rules}
 use Rattle.answers.proofs.one.Goals as goal
 
 pub returns : goal.returns

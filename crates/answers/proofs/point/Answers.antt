@@ -4,7 +4,6 @@ use mir.Facts.{to_z-of_z}
 use Rattle.text.specs.Pieces.{then}
 use Rattle.text.proofs.Lays.{one}
 use Rattle.answers.specs.Answers.{point_pieces}
-use borrow.Author.Rules.{rules}
 use Rattle.answers.proofs.point.Goals as goal
 
 pub returns : goal.returns

@@ -1,6 +1,5 @@
 -- By the answer's case. Assumes nothing.
 use Rattle.apsides.specs.Apsides.{apsides_number}
-use borrow.Author.Rules.{rules}
 use Rattle.answers.proofs.tell_apsides.Goals as goal
 
 pub returns-in-Refused : goal.returns-in-Refused

@@ -1,5 +1,4 @@
 -- By the answer's case. Assumes nothing.
-use borrow.Author.Rules.{rules}
 use Rattle.real.specs.Numbers.{answer_number}
 use Rattle.answers.proofs.tell_number.Goals as goal
 

@@ -1,6 +1,5 @@
 -- By the answer's case. Assumes nothing.
 use Rattle.theta.specs.Theta.{transfer_time_number}
-use borrow.Author.Rules.{rules}
 use Rattle.answers.proofs.tell_time.Goals as goal
 
 pub returns-in-TooLong : goal.returns-in-TooLong

@@ -1,8 +1,5 @@
 -- By the answer's case. Assumes nothing.
-use mir.Syntax.{w64}
-use mir.Facts.{to_z-of_z}
 use Rattle.text.proofs.Lays.{one as piece}
-use borrow.Author.Rules.{rules}
 use Rattle.iterator.specs.Single.{tried_number}
 use Rattle.answers.proofs.tell_trial.Goals as goal
 

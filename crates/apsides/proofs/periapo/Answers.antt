@@ -5,7 +5,6 @@ use Rattle.table.specs.declared.Test.{Test}
 use Rattle.table.specs.Tests.{first_failing}
 use mathlib.Core.Path.{sym, ap, ◌∙◌}
 use Rattle.apsides.specs.Apsides.{answered}
-use borrow.Author.Rules.{rules}
 use Rattle.apsides.proofs.periapo.Goals as goal
 
 pub returns-in-Passed : goal.returns-in-Passed

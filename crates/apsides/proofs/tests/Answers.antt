@@ -1,7 +1,6 @@
 -- `apsides::tests` meets its contract. Assumes nothing.
 use Rattle.table.proofs.Laws.{first_failing_lem}
 use Rattle.apsides.specs.Apsides.{apsides_tests}
-use borrow.Author.Rules.{rules}
 use Rattle.apsides.proofs.tests.Goals as goal
 
 pub returns : goal.returns

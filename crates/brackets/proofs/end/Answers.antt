@@ -3,7 +3,6 @@ use mir.Syntax.{w64}
 use mir.Facts.{to_z-of_z}
 use Rattle.text.specs.Pieces.{then}
 use Rattle.brackets.specs.Brackets.{bracket_end_pieces}
-use borrow.Author.Rules.{rules}
 use Rattle.brackets.proofs.end.Goals as goal
 
 pub returns : goal.returns

@@ -4,7 +4,6 @@ use mir.Facts.{to_z-of_z}
 use Rattle.text.specs.Pieces.{then}
 use Rattle.text.proofs.Lays.{one, and_then}
 use Rattle.brackets.specs.Brackets.{from_pieces}
-use borrow.Author.Rules.{rules}
 use Rattle.brackets.proofs.from.Goals as goal
 
 pub returns : goal.returns

@@ -2,7 +2,6 @@
 use Rattle.text.specs.Pieces.{then}
 use Rattle.text.proofs.Lays.{one}
 use Rattle.brackets.specs.Brackets.{judgement_pieces}
-use borrow.Author.Rules.{rules}
 use Rattle.brackets.proofs.judgement.Goals as goal
 
 pub returns-in-Low : goal.returns-in-Low

@@ -2,7 +2,6 @@
 use Rattle.text.specs.Pieces.{then}
 use Rattle.text.proofs.Lays.{one, and_then}
 use Rattle.brackets.specs.Brackets.{stopped_pieces}
-use borrow.Author.Rules.{rules}
 use Rattle.brackets.proofs.stopped.Goals as goal
 
 pub returns : goal.returns

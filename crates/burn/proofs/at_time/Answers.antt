@@ -6,7 +6,6 @@ use mir.Val.{to_z, of_z}
 use mir.Facts.{to_z-of_z}
 use Rattle.elapsed.specs.Elapsed.{elapsed_of}
 use Rattle.burn.specs.Burn.{moved_for, at_time}
-use borrow.Author.Rules.{rules}
 use Rattle.burn.proofs.at_time.Goals as goal
 
 pub returns-in-Cs : goal.returns-in-Cs

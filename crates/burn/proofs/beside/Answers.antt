@@ -4,7 +4,6 @@ use mathlib.Core.Bool.{Bool, cond}
 use Rattle.coelliptic.specs.Coelliptic.{speeds_of}
 use Rattle.burn.specs.declared.Burn.TheVariants.{Refused}
 use Rattle.burn.specs.Burn.{sped_of, beside_of}
-use borrow.Author.Rules.{rules}
 use Rattle.burn.proofs.beside.Goals as goal
 
 pub returns-then-p-aa : goal.returns-then-p-aa

@@ -5,7 +5,6 @@ use Rattle.vector.specs.Vectors.{position_of, state_of, difference_of}
 use Rattle.apsides.specs.declared.Apsides.{Apsides}
 use Rattle.apsides.specs.Apsides.{apsides_of}
 use Rattle.burn.specs.Burn.{cleared_of, changed_of}
-use borrow.Author.Rules.{rules}
 use Rattle.burn.proofs.changed.Goals as goal
 
 pub returns : goal.returns

@@ -1,7 +1,6 @@
 -- `burn::cleared` meets its contract. Assumes nothing.
 use mathlib.Core.Path.{sym, ◌∙◌}
 use Rattle.burn.specs.Burn.{cleared_of}
-use borrow.Author.Rules.{rules}
 use Rattle.burn.proofs.cleared.Goals as goal
 
 pub returns-then-is_clear : goal.returns-then-is_clear

@@ -4,7 +4,6 @@ use lib.Ieee.{Float}
 use Rattle.vector.specs.Vectors.{length_of}
 use Rattle.coelliptic.specs.Coelliptic.{axis_of}
 use Rattle.burn.specs.Burn.{beside_of, coelliptic_of}
-use borrow.Author.Rules.{rules}
 use Rattle.burn.proofs.coelliptic_of.Goals as goal
 
 pub returns : goal.returns

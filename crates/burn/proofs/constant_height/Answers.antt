@@ -11,7 +11,6 @@ use Rattle.burn.specs.declared.Brought.{Brought}
 use Rattle.burn.proofs.Order.{body_refused, radius-refused, time-refused, inputs-passed}
 use Rattle.vector.specs.declared.State.{State}
 use Rattle.burn.specs.Burn.{at_time, from_passive, from_active, radius_allowed, burn_of}
-use borrow.Author.Rules.{rules}
 use mathlib.Core.Bool.{not}
 use Rattle.burn.proofs.constant_height.Goals as goal
 

@@ -1,7 +1,6 @@
 -- `burn::from_passive` meets its contract. Assumes nothing.
 use mathlib.Core.Path.{sym, ap, ◌∙◌}
 use Rattle.burn.specs.Burn.{in_line_of, from_point, from_passive}
-use borrow.Author.Rules.{rules}
 use Rattle.burn.proofs.from_passive.Goals as goal
 
 pub returns-in-Moved : goal.returns-in-Moved

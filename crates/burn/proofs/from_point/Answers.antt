@@ -1,7 +1,6 @@
 -- `burn::from_point` meets its contract. Assumes nothing.
 use mathlib.Core.Path.{sym, ap, ◌∙◌}
 use Rattle.burn.specs.Burn.{coelliptic_of, from_point}
-use borrow.Author.Rules.{rules}
 use Rattle.burn.proofs.from_point.Goals as goal
 
 pub returns-in-Moved : goal.returns-in-Moved

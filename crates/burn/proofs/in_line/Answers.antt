@@ -1,7 +1,6 @@
 -- `burn::in_line` meets its contract. Assumes nothing.
 use mathlib.Core.Path.{sym, ap, ◌∙◌}
 use Rattle.burn.specs.Burn.{moved_by, in_line_of}
-use borrow.Author.Rules.{rules}
 use Rattle.burn.proofs.in_line.Goals as goal
 
 pub returns-in-Time : goal.returns-in-Time

@@ -1,6 +1,5 @@
 -- `burn::is_clear` meets its contract. Assumes nothing.
 use Rattle.burn.specs.Burn.{clear_of}
-use borrow.Author.Rules.{rules}
 use Rattle.burn.proofs.is_clear.Goals as goal
 
 pub returns : goal.returns

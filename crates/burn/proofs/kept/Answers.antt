@@ -1,6 +1,5 @@
 -- `burn::kept` meets its contract. Assumes nothing.
 use Rattle.burn.specs.Burn.{kept_of}
-use borrow.Author.Rules.{rules}
 use Rattle.burn.proofs.kept.Goals as goal
 
 pub returns-in-Found : goal.returns-in-Found

@@ -1,7 +1,6 @@
 -- `burn::moved` meets its contract. Assumes nothing.
 use mathlib.Core.Path.{ap, ◌∙◌}
 use Rattle.burn.specs.Burn.{kept_of, moved_of}
-use borrow.Author.Rules.{rules}
 use Rattle.burn.proofs.moved.Goals as goal
 
 pub returns : goal.returns

@@ -3,7 +3,6 @@ use mathlib.Core.Path.{sym, ap, ◌∙◌}
 use Rattle.table.specs.Tests.{passes}
 use Rattle.table.proofs.Laws.{first_failing_lem, passes-all}
 use Rattle.rows.specs.Rows.{radius_row}
-use borrow.Author.Rules.{rules}
 use Rattle.burn.proofs.radius_allowed.Goals as goal
 
 pub returns-in-Passed : goal.returns-in-Passed

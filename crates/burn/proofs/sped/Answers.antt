@@ -4,7 +4,6 @@ use mathlib.Core.Bool.{Bool, cond}
 use Rattle.coelliptic.specs.Coelliptic.{new_of}
 use Rattle.burn.specs.declared.Burn.TheVariants.{Refused}
 use Rattle.burn.specs.Burn.{changed_of, sped_of}
-use borrow.Author.Rules.{rules}
 use Rattle.burn.proofs.sped.Goals as goal
 
 pub returns-then-v : goal.returns-then-v

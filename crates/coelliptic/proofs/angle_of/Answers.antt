@@ -1,6 +1,5 @@
 -- `coelliptic::angle_of` meets its contract. Assumes nothing.
 use Rattle.coelliptic.specs.Coelliptic.{angle_of}
-use borrow.Author.Rules.{rules}
 use Rattle.coelliptic.proofs.angle_of.Goals as goal
 
 pub returns : goal.returns

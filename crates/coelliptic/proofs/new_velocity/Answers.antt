@@ -1,6 +1,5 @@
 -- `coelliptic::new_velocity` meets its contract. Assumes nothing.
 use Rattle.coelliptic.specs.Coelliptic.{new_of}
-use borrow.Author.Rules.{rules}
 use Rattle.coelliptic.proofs.new_velocity.Goals as goal
 
 pub returns : goal.returns

@@ -1,6 +1,5 @@
 -- `coelliptic::normal` meets its contract. Assumes nothing.
 use Rattle.coelliptic.specs.Coelliptic.{normal_of}
-use borrow.Author.Rules.{rules}
 use Rattle.coelliptic.proofs.normal.Goals as goal
 
 pub returns : goal.returns

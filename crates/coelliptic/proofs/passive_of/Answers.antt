@@ -1,6 +1,5 @@
 -- `coelliptic::passive_of` meets its contract. Assumes nothing.
 use Rattle.coelliptic.specs.Coelliptic.{passive_of}
-use borrow.Author.Rules.{rules}
 use Rattle.coelliptic.proofs.passive_of.Goals as goal
 
 pub returns : goal.returns

@@ -1,6 +1,5 @@
 -- `coelliptic::projected` meets its contract. Assumes nothing.
 use Rattle.coelliptic.specs.Coelliptic.{projected_of}
-use borrow.Author.Rules.{rules}
 use Rattle.coelliptic.proofs.projected.Goals as goal
 
 pub returns : goal.returns

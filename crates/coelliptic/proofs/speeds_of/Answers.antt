@@ -1,6 +1,5 @@
 -- `coelliptic::speeds_of` meets its contract. Assumes nothing.
 use Rattle.coelliptic.specs.Coelliptic.{speeds_of}
-use borrow.Author.Rules.{rules}
 use Rattle.coelliptic.proofs.speeds_of.Goals as goal
 
 pub returns : goal.returns

@@ -1,6 +1,5 @@
 -- `coelliptic::unit` meets its contract. Assumes nothing.
 use Rattle.coelliptic.specs.Coelliptic.{unit_of}
-use borrow.Author.Rules.{rules}
 use Rattle.coelliptic.proofs.unit.Goals as goal
 
 pub returns : goal.returns

@@ -2,7 +2,6 @@
 use Rattle.text.specs.Pieces.{then}
 use Rattle.text.proofs.Lays.{one}
 use Rattle.columns.specs.Rows.{counted_pieces}
-use borrow.Author.Rules.{rules}
 use Rattle.columns.proofs.counted.Goals as goal
 
 pub returns : goal.returns

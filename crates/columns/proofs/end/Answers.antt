@@ -1,7 +1,6 @@
 -- The word, the row and the newline. Assumes nothing.
 use Rattle.text.specs.Pieces.{then}
 use Rattle.text.proofs.Lays.{one, and_then}
-use borrow.Author.Rules.{rules}
 use Rattle.columns.proofs.end.Goals as goal
 
 pub returns : goal.returns

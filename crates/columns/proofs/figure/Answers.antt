@@ -1,6 +1,5 @@
 -- Each style by its own routine. Assumes nothing.
 use Rattle.columns.specs.Rows.{figure_text}
-use borrow.Author.Rules.{rules}
 use Rattle.columns.proofs.figure.Goals as goal
 
 pub returns-in-Places : goal.returns-in-Places

@@ -1,6 +1,5 @@
 -- The label, and the row behind it. Assumes nothing.
 use Rattle.text.specs.Pieces.{then}
-use borrow.Author.Rules.{rules}
 use Rattle.columns.proofs.labelled.Goals as goal
 
 pub returns : goal.returns

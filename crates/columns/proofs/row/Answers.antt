@@ -1,9 +1,6 @@
 -- One number more each turn. Assumes nothing.
 use Prim.Native.Nat.{◌-◌}
-use lib.ListN.{length}
-use Rattle.text.proofs.Lays.{laid-size}
-use Rattle.columns.proofs.RowLaws.{Row, row-start, row_more, row-whole}
-use native.Mathlib.Omega.{arith}
+use Rattle.columns.proofs.RowLaws.{row-start, row_more}
 use Rattle.columns.proofs.row.Goals as goal
 
 pub loop-i-init : goal.loop-i-init

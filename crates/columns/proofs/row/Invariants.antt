@@ -1,9 +1,7 @@
 -- One number more each turn. Assumes nothing.
 use Prim.Native.Nat.{◌-◌}
 use lib.ListN.{length}
-use Rattle.text.proofs.Lays.{laid-size}
-use Rattle.columns.proofs.RowLaws.{Row, row-start, row_more, row-whole}
-use native.Mathlib.Omega.{arith}
+use Rattle.columns.proofs.RowLaws.{Row}
 use Rattle.columns.proofs.row.Given as goal
 
 abbrev pub invariant-loop-i : goal.invariant-loop-i

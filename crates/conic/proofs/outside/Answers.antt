@@ -1,5 +1,4 @@
 -- `conic::outside` meets its contract. Assumes nothing.
-use borrow.Author.Rules.{rules}
 use Rattle.conic.specs.Conic.{outside_of}
 use Rattle.conic.proofs.outside.Goals as goal
 

@@ -1,6 +1,5 @@
 -- `conic::point_at` meets its contract. Assumes nothing.
 use Rattle.conic.specs.Conic.{point_at, trial_of}
-use borrow.Author.Rules.{rules}
 use Rattle.conic.proofs.point_at.Goals as goal
 
 pub returns-in_default : goal.returns-in_default

@@ -1,5 +1,5 @@
 -- `elapsed::at_least` meets its contract. Assumes nothing.
-use Rattle.std.proofs.Common.{◌≡◌, ℕ, ◌-◌, ltb, leb, sym, ap, ◌∙◌, to_z-of_z, rules, le-ltb, lt-ltb}
+use Rattle.std.proofs.Common.{◌≡◌, ℕ, ◌-◌, ltb, leb, sym, ap, ◌∙◌, to_z-of_z, le-ltb, lt-ltb}
 use Rattle.elapsed.specs.Elapsed.{raised, at_least}
 use Rattle.elapsed.proofs.Raised.{least-earlier, least-later}
 use Rattle.elapsed.proofs.at_least.Goals as goal

@@ -1,5 +1,5 @@
 -- `elapsed::between` meets its contract: a difference within 2^28 fits. Assumes nothing.
-use Rattle.std.proofs.Common.{◌≡◌, ℕ, ◌^◌, ◌<◌, ◌≤◌, Bool, cond, ltb, ℤ, ◌-ℤ◌, nat_abs, sym, ap, ◌∙◌, subst, arith, to_z-of_z, w64, SFits, to_z, of_z, rules, ltb-false, le-ltb, lt-ltb}
+use Rattle.std.proofs.Common.{◌≡◌, ℕ, ◌^◌, ◌<◌, ◌≤◌, Bool, cond, ltb, ℤ, ◌-ℤ◌, nat_abs, sym, ap, ◌∙◌, subst, arith, to_z-of_z, w64, SFits, to_z, of_z, ltb-false, le-ltb, lt-ltb}
 use lib.Signed.{mag}
 use lib.Ieee.{binary64, of_int}
 use Rattle.elapsed.specs.declared.Elapsed.TheVariants.{Cs, TooLong}
@@ -10,10 +10,12 @@ use Rattle.elapsed.proofs.between.Goals as goal
 small : (c : goal.Else-apart-gt268435456) → SFits w64 (c.args.to -ℤ c.args.from)
 small c =
     let d = c.args.to -ℤ c.args.from in
-    record { sfits = under (mag d) (nat_abs d) (mag-size d) (ltb-false 268435456 (nat_abs d) (sym (ap (ltb 268435456) (let sized : c.apart.result ≡ nat_abs (c.args.to -ℤ c.args.from) = c.apart.ensures
-    ∙ ap (λ (n : ℕ). apart_of n c.raise-2.result) (c.raise.ensures ∙ ap raised (to_z-of_z c.ranges.from))
-    ∙ ap (apart_of (raised c.args.from)) (c.raise-2.ensures ∙ ap raised (to_z-of_z c.ranges.to))
-    ∙ sym (size_is c.args.from c.args.to c.ranges.from.sfits c.ranges.to.sfits) in sized)) ∙ le-ltb _ _ c.if-apart-gt268435456.false)) }
+    record {
+      sfits = under (mag d) (nat_abs d) (mag-size d) (ltb-false 268435456 (nat_abs d) (sym (ap (ltb 268435456) (let sized : c.apart.result ≡ nat_abs (c.args.to -ℤ c.args.from) = c.apart.ensures
+          ∙ ap (λ (n : ℕ). apart_of n c.raise-2.result) (c.raise.ensures ∙ ap raised (to_z-of_z c.ranges.from))
+          ∙ ap (apart_of (raised c.args.from)) (c.raise-2.ensures ∙ ap raised (to_z-of_z c.ranges.to))
+          ∙ sym (size_is c.args.from c.args.to c.ranges.from.sfits c.ranges.to.sfits) in sized)) ∙ le-ltb _ _ c.if-apart-gt268435456.false));
+    }
   where
     under : (m n : ℕ) → m ≤ n → n ≤ 268435456 → m < 2 ^ 63
     under m n h k = omega arith

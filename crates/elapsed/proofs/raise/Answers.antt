@@ -1,7 +1,7 @@
 -- `elapsed::raise` meets its contract: −1 − t of a t below 0 is its magnitude, and fits. Assumes nothing.
-use Rattle.std.proofs.Common.{◌≡◌, ℕ, ◌+◌, ◌-◌, ◌^◌, ◌<◌, ◌≤◌, T, ℤ, pos, negsuc, ◌-ℤ◌, nat_abs, sym, ap, ◌∙◌, subst, arith, to_z-of_z, w64, Fits, SFits, to_z, of_z}
-use lib.Signed.{mag, non_neg}
-use Rattle.elapsed.proofs.Raised.{flipped, raised_below, raised-above, above_zero}
+use Rattle.std.proofs.Common.{◌≡◌, ◌+◌, ◌-◌, ℤ, pos, negsuc, ◌-ℤ◌, nat_abs, ap, ◌∙◌, to_z-of_z, w64, SFits, to_z, of_z}
+use lib.Signed.{mag}
+use Rattle.elapsed.proofs.Raised.{flipped, raised_below, raised-above}
 use Rattle.elapsed.proofs.raise.Goals as goal
 
 -- −1 − t, from the bits of t

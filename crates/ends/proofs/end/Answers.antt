@@ -1,5 +1,4 @@
 -- The place, and its judgement. Assumes nothing.
-use borrow.Author.Rules.{rules}
 use mir.Syntax.{w64}
 use mir.Facts.{to_z-of_z}
 use Rattle.text.specs.Pieces.{then}

@@ -1,5 +1,4 @@
 -- Five pieces. Assumes nothing.
-use borrow.Author.Rules.{rules}
 use Rattle.text.specs.Pieces.{then}
 use Rattle.text.proofs.Lays.{one}
 use Rattle.ends.specs.Ends.{over_pieces}

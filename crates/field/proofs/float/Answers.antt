@@ -1,5 +1,4 @@
 -- A NaN's pattern is told by its size without the sign. Assumes nothing.
-use borrow.Author.Rules.{rules}
 use Rattle.real.proofs.Patterns.{nan-bits, no-nan-bits}
 use Rattle.field.proofs.float.Goals as goal
 

@@ -1,13 +1,8 @@
 -- `field::le_of` meets its contract. The invariant: what is summed is the number of the bytes from i on. Assumes nothing.
-use Prim.Native.Nat.{ℕ, ◌≤◌, ◌<◌, ◌+◌, ◌-◌, ◌*◌, ◌^◌}
-use mathlib.Core.Path.{◌≡◌, refl, sym, ap, ◌∙◌}
-use native.Mathlib.Nat.{le_refl, sub_self, sub-zero}
-use lib.Dec.{lit<}
-use native.Mathlib.Omega.{arith}
-use lib.ListN.{length, get_or, drop}
-use lib.Seq.{drop-length}
+use Prim.Native.Nat.{◌≤◌, ◌<◌, ◌-◌, ◌^◌}
+use mathlib.Core.Path.{◌≡◌}
+use lib.ListN.{length, drop}
 use Rattle.field.specs.Bytes.{le}
-use Rattle.field.proofs.Fields.{le-back, bound-back, bound-seven}
 use Rattle.field.proofs.le_of.Given as goal
 
 abbrev pub invariant-loop-i : goal.invariant-loop-i

@@ -1,8 +1,7 @@
 -- The bytes that are there, of the eight at most that are asked for. Assumes nothing.
 use Prim.Native.Nat.{ℕ, ◌-◌, min}
-use mathlib.Core.Path.{◌≡◌, sym, ap, ◌∙◌}
+use mathlib.Core.Path.{◌≡◌, ap, ◌∙◌}
 use lib.ListN.{length}
-use borrow.Author.Rules.{rules}
 use Rattle.field.specs.Bytes.{le}
 use Rattle.field.proofs.Parts.{none-there, some, part, part-below}
 use Rattle.field.proofs.read.Goals as goal

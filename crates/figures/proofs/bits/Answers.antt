@@ -1,12 +1,8 @@
 -- `bits`: the 17 bytes are made in a local line and put from there.
-use native.Mathlib.Omega.{arith}
-use mathlib.Core.Path.{sym}
-use lib.Seq.{length-take-le}
 use lib.Dec.{lit≤}
 use lib.Ieee.{fits}
-use borrow.Author.Rules.{rules}
 use Rattle.real.proofs.Patterns.{not-nan}
-use Rattle.text.proofs.Stand.{then, same_size}
+use Rattle.text.proofs.Stand.{then}
 use Rattle.figures.proofs.Places.{front}
 use Rattle.figures.proofs.Sizes.{bits-nan, bits-else}
 use Rattle.figures.proofs.bits.Goals as goal

@@ -1,14 +1,10 @@
 -- `fixed`: x is the number that its bits stand for; the figure is made at the front of a local line and put from there.
-use native.Mathlib.Omega.{arith}
 use mathlib.Core.Path.{◌≡◌, sym, ap, ◌∙◌, subst}
-use lib.Seq.{length-take-le}
 use lib.Dec.{T}
 use lib.Ieee.{binary64, of_bits, to_bits}
 use lib.Ieee.Bits.{of_bits-to_bits}
-use borrow.Author.Rules.{rules}
 use Rattle.real.proofs.Patterns.{not-nan}
 use Rattle.figures.specs.Figures.{fixed_of}
-use Rattle.text.proofs.Stand.{same_size}
 use Rattle.figures.proofs.Places.{front}
 use Rattle.figures.proofs.Sizes.{small, large, fixed-nan}
 use Rattle.figures.proofs.fixed.Goals as goal

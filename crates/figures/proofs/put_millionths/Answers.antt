@@ -1,6 +1,5 @@
 -- `put_millionths`: four texts, one behind the other, in room that is always enough.
 use lib.Dec.{lit≤}
-use borrow.Author.Rules.{rules}
 use Rattle.figures.proofs.Places.{pointed}
 use Rattle.text.proofs.Stand.{then}
 use Rattle.figures.proofs.put_millionths.Goals as goal

@@ -1,14 +1,10 @@
 -- The loop has put all places but the first i: whoever puts those, the last i of m, gets the whole. The measure is i. Assumes nothing.
 use Prim.Native.Nat.{ℕ, ◌+◌, ◌≤◌}
-use native.Mathlib.Nat.{add-zero}
-use native.Mathlib.Omega.{arith}
-use mathlib.Core.Path.{◌≡◌, refl}
+use mathlib.Core.Path.{◌≡◌}
 use mathlib.Core.List.{List}
-use lib.ListN.{length, length-set}
+use lib.ListN.{length}
 use Rattle.text.specs.Text.{Stands}
-use Rattle.text.proofs.Stand.{none, last-first}
 use Rattle.figures.specs.Figures.{places}
-use Rattle.figures.proofs.Places.{places-more, last-digit}
 use Rattle.figures.proofs.put_places.Given as goal
 
 abbrev pub invariant-loop-i : goal.invariant-loop-i

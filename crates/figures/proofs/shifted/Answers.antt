@@ -1,6 +1,5 @@
 -- `shifted`: the ten lowest digits fall away before the product can outgrow a u64.
 use native.Mathlib.Omega.{arith}
-use borrow.Author.Rules.{rules}
 use Rattle.figures.proofs.Sizes.{shift, shift_small, shift_none}
 use Rattle.figures.proofs.shifted.Goals as goal
 

@@ -13,7 +13,6 @@ use Rattle.table.proofs.Laws.{first_failing_lem}
 use Rattle.rows.specs.Rows.{velocity_components}
 use Rattle.flight.specs.declared.Flown.TheVariants as F
 use Rattle.flight.proofs.Flights.{burned-passed, burned-failed}
-use borrow.Author.Rules.{rules}
 use Rattle.flight.proofs.burn.Goals as goal
 
 pub returns-in-Passed : goal.returns-in-Passed

@@ -10,7 +10,6 @@ use Rattle.elapsed.specs.Elapsed.{elapsed_of}
 use Rattle.solve.specs.Answers.{advance_of}
 use Rattle.flight.specs.Flight.{mu_of, flown_as}
 use Rattle.flight.proofs.Flights.{far-is, near-is, flown-far, flown-near}
-use borrow.Author.Rules.{rules}
 use Rattle.flight.proofs.fly.Goals as goal
 
 pub returns-in-Cs : goal.returns-in-Cs

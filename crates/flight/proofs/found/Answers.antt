@@ -3,7 +3,6 @@ use mir.Syntax.{w64}
 use mir.Facts.{to_z-of_z}
 use Rattle.solve.specs.Answers.{advanced_number}
 use Rattle.flight.specs.Flight.{flown_as}
-use borrow.Author.Rules.{rules}
 use Rattle.flight.proofs.found.Goals as goal
 
 pub returns-in-Found : goal.returns-in-Found

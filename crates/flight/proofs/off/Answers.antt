@@ -4,7 +4,6 @@ use lib.Ieee.{Float, binary64, sub}
 use Rattle.vector.specs.declared.Vector.{Vector}
 use Rattle.vector.specs.Vectors.{position_of, length_of, difference_of}
 use Rattle.flight.specs.Flight.{off_of}
-use borrow.Author.Rules.{rules}
 use Rattle.flight.proofs.off.Goals as goal
 
 pub returns : goal.returns

@@ -7,7 +7,6 @@ use mir.Val.{to_z, of_z}
 use mir.Facts.{to_z-of_z}
 use Rattle.elapsed.specs.Elapsed.{elapsed_of}
 use Rattle.flight.proofs.Flights.{far-is, near-is}
-use borrow.Author.Rules.{rules}
 use Rattle.flight.proofs.too_far.Goals as goal
 
 pub returns-in-Cs : goal.returns-in-Cs

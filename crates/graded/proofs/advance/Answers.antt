@@ -1,5 +1,4 @@
 -- `graded::advance` meets its contract: the settings are looked at first. Assumes nothing.
-use borrow.Author.Rules.{rules}
 use mathlib.Core.Path.{sym, ◌∙◌}
 use Rattle.graded.specs.Graded.{advance_by}
 use Rattle.graded.proofs.advance.Goals as goal

@@ -1,5 +1,4 @@
 -- `graded::advanced` meets its contract: case by case. Assumes nothing.
-use borrow.Author.Rules.{rules}
 use Rattle.graded.specs.Graded.{graded_advanced}
 use Rattle.graded.proofs.advanced.Goals as goal
 

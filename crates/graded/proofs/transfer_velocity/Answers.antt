@@ -1,5 +1,4 @@
 -- `graded::transfer_velocity` meets its contract: the settings are looked at first. Assumes nothing.
-use borrow.Author.Rules.{rules}
 use mathlib.Core.Path.{sym, ◌∙◌}
 use Rattle.graded.specs.Graded.{transfer_by}
 use Rattle.graded.proofs.transfer_velocity.Goals as goal

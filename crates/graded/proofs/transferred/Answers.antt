@@ -1,5 +1,4 @@
 -- `graded::transferred` meets its contract: case by case. Assumes nothing.
-use borrow.Author.Rules.{rules}
 use Rattle.graded.specs.Graded.{graded_transferred}
 use Rattle.graded.proofs.transferred.Goals as goal
 

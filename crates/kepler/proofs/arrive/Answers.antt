@@ -2,7 +2,6 @@
 use mir.ValLaws.{to_z-of_z}
 use mir.Syntax.{w64}
 use Rattle.kepler.specs.Kepler.{arrival_at}
-use borrow.Author.Rules.{rules}
 use Rattle.kepler.proofs.arrive.Goals as goal
 
 pub returns-in-Numbers : goal.returns-in-Numbers

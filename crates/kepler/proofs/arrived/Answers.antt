@@ -3,7 +3,6 @@ use Rattle.vector.specs.Vectors.{state_of}
 use Rattle.kepler.specs.declared.Arrival.TheVariants.{InRange, OutOfRange}
 use mathlib.Core.Path.{◌≡◌, sym, ◌∙◌}
 use Rattle.kepler.specs.Kepler.{arrival_by}
-use borrow.Author.Rules.{rules}
 use Rattle.kepler.proofs.arrived.Goals as goal
 
 pub returns-in-Passed : goal.returns-in-Passed

@@ -1,7 +1,6 @@
 -- `kepler::result_row` meets its contract. Assumes nothing.
 use Rattle.table.proofs.Laws.{first_failing_lem}
 use Rattle.kepler.specs.Kepler.{result_row}
-use borrow.Author.Rules.{rules}
 use Rattle.kepler.proofs.result_row.Goals as goal
 
 pub returns : goal.returns

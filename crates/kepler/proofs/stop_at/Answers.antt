@@ -1,5 +1,4 @@
 -- `kepler::stop_at` meets its contract. Assumes nothing.
-use borrow.Author.Rules.{rules}
 use mathlib.Core.Path.{sym, ◌∙◌}
 use mir.ValLaws.{to_z-of_z}
 use mir.Syntax.{w64}

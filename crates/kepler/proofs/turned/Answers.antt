@@ -1,6 +1,5 @@
 -- `kepler::turned` meets its contract. Assumes nothing.
 use Rattle.kepler.specs.Kepler.{turned_of}
-use borrow.Author.Rules.{rules}
 use Rattle.kepler.proofs.turned.Goals as goal
 
 pub returns-then-t : goal.returns-then-t

@@ -1,5 +1,4 @@
 -- `kepler::turns_of` meets its contract. Assumes nothing.
-use borrow.Author.Rules.{rules}
 use Rattle.kepler.specs.Kepler.{turns_of}
 use Rattle.kepler.proofs.turns_of.Goals as goal
 

@@ -2,7 +2,6 @@
 use mir.ValLaws.{to_z-of_z}
 use mir.Syntax.{w64}
 use Rattle.lambert.specs.Lambert.{judged_reach}
-use borrow.Author.Rules.{rules}
 use Rattle.lambert.proofs.judge.Goals as goal
 
 pub returns-in-Time : goal.returns-in-Time

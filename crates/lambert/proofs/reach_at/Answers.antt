@@ -1,6 +1,5 @@
 -- `lambert::reach_at` meets its contract. Assumes nothing.
 use Rattle.lambert.specs.Lambert.{reach_at}
-use borrow.Author.Rules.{rules}
 use mathlib.Core.Path.{ap}
 use mathlib.Core.Bool.{not}
 use Rattle.lambert.proofs.reach_at.Goals as goal

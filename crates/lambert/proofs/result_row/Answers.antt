@@ -2,7 +2,6 @@
 use mathlib.Core.Path.{◌∙◌}
 use Rattle.table.proofs.Laws.{first_failing_lem}
 use Rattle.lambert.specs.Lambert.{result_row}
-use borrow.Author.Rules.{rules}
 use Rattle.lambert.proofs.result_row.Goals as goal
 
 pub returns : goal.returns

@@ -1,5 +1,4 @@
 -- `lambert::side` meets its contract. Assumes nothing.
-use borrow.Author.Rules.{rules}
 use Rattle.lambert.specs.Lambert.{side_of}
 use Rattle.lambert.proofs.side.Goals as goal
 

@@ -1,5 +1,4 @@
 -- `lambert::stop_at` meets its contract. Assumes nothing.
-use borrow.Author.Rules.{rules}
 use mir.ValLaws.{to_z-of_z}
 use mir.Syntax.{w64}
 use Rattle.lambert.specs.Lambert.{stopped_by}

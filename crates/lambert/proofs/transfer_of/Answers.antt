@@ -1,6 +1,5 @@
 -- `lambert::transfer_of` meets its contract. Assumes nothing.
 use Rattle.lambert.specs.Lambert.{transfer_of}
-use borrow.Author.Rules.{rules}
 use Rattle.lambert.proofs.transfer_of.Goals as goal
 
 pub returns : goal.returns

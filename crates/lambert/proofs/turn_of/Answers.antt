@@ -1,6 +1,5 @@
 -- `lambert::turn_of` meets its contract. Assumes nothing.
 use Rattle.lambert.specs.Lambert.{turn_of}
-use borrow.Author.Rules.{rules}
 use Rattle.lambert.proofs.turn_of.Goals as goal
 
 pub returns-in-Short : goal.returns-in-Short

@@ -1,5 +1,4 @@
 -- Test by test. Assumes nothing.
-use borrow.Author.Rules.{rules}
 use Rattle.text.proofs.Lays.{one}
 use Rattle.limits.specs.Limits.{bound_pieces}
 use Rattle.limits.proofs.bound.Goals as goal

@@ -1,5 +1,4 @@
 -- The word, and the number behind it. Assumes nothing.
-use borrow.Author.Rules.{rules}
 use Rattle.text.specs.Pieces.{then}
 use Rattle.limits.proofs.bounded.Goals as goal
 

@@ -1,5 +1,4 @@
 -- A NaN by its one pattern; else the bits as they are shown everywhere. Assumes nothing.
-use borrow.Author.Rules.{rules}
 use mathlib.Core.Path.{sym}
 use Rattle.real.proofs.Patterns.{not-nan}
 use Rattle.figures.proofs.Sizes.{bits-else}

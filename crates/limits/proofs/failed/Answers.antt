@@ -1,5 +1,4 @@
 -- The name, the amount, the limit and the bits. Assumes nothing.
-use borrow.Author.Rules.{rules}
 use Rattle.text.specs.Pieces.{then}
 use Rattle.text.proofs.Lays.{one, and_then}
 use Rattle.limits.specs.Limits.{failed_pieces}

@@ -1,5 +1,4 @@
 -- By the limit. Assumes nothing.
-use borrow.Author.Rules.{rules}
 use Rattle.text.proofs.Lays.{one}
 use Rattle.limits.proofs.limit.Goals as goal
 

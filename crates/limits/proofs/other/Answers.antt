@@ -1,5 +1,4 @@
 -- A NaN; a power of two by its bits; any other number. Assumes nothing.
-use borrow.Author.Rules.{rules}
 use mathlib.Core.Path.{sym, ◌∙◌}
 use Rattle.real.proofs.Patterns.{not-nan}
 use Rattle.text.proofs.Lays.{one}

@@ -1,5 +1,4 @@
 -- The sign of the exponent, and its size. Assumes nothing.
-use borrow.Author.Rules.{rules}
 use Rattle.text.specs.Pieces.{then}
 use Rattle.text.proofs.Lays.{one}
 use borrow.Author.Tests.{le-leb, lt-leb}

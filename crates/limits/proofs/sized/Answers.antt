@@ -1,5 +1,4 @@
 -- The same, and two words more. Assumes nothing.
-use borrow.Author.Rules.{rules}
 use Rattle.text.proofs.Lays.{one, and_then}
 use Rattle.limits.proofs.sized.Goals as goal
 

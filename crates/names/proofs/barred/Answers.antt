@@ -1,5 +1,4 @@
 -- Three pieces. Assumes nothing.
-use borrow.Author.Rules.{rules}
 use Rattle.text.specs.Pieces.{then}
 use Rattle.text.proofs.Lays.{one}
 use Rattle.names.proofs.barred.Goals as goal

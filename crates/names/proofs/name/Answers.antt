@@ -1,5 +1,4 @@
 -- By the part. Assumes nothing.
-use borrow.Author.Rules.{rules}
 use Rattle.text.proofs.Lays.{one}
 use Rattle.names.proofs.name.Goals as goal
 

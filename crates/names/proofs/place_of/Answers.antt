@@ -1,10 +1,8 @@
 -- By the name. Assumes nothing.
-use borrow.Author.Rules.{rules}
 use mathlib.Core.Path.{refl}
 use Rattle.words.specs.Words.{word_at, from_word, from, up_to, is_of}
 use Rattle.names.specs.Names.{word_text}
 use Rattle.names.proofs.Shared.{first-or-active, passive-or-p}
-use borrow.Enum.Refused.{opened}
 use Rattle.names.proofs.place_of.Goals as goal
 
 pub returns-in-Mu : goal.returns-in-Mu

@@ -11,7 +11,6 @@ use Rattle.forms.specs.Forms.{Form, signed, judgement, whole, read_by}
 use Rattle.forms.proofs.Steps.{by_whole_lem}
 use Rattle.options.specs.Options.{behind_end}
 use Rattle.options.specs.declared.End.{End}
-use borrow.Author.Rules.{rules}
 use Rattle.options.proofs.bracket_at.Goals as goal
 
 -- what follows the lower end, and what follows the upper one

@@ -6,7 +6,6 @@ use borrow.Author.Tests.{not-true, not-false}
 use Rattle.forms.specs.declared.Version.TheVariants.{Named}
 use Rattle.forms.specs.Forms.{end, read_by}
 use Rattle.forms.proofs.Steps.{by_word, by_whole_lem}
-use borrow.Author.Rules.{rules}
 use mathlib.Core.Bool.{not}
 use Rattle.options.proofs.by_version.Goals as goal
 

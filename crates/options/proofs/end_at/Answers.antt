@@ -5,7 +5,6 @@ use mir.Syntax.{w64}
 use mir.Facts.{to_z-of_z}
 use native.Mathlib.Omega.{arith}
 use Rattle.forms.proofs.Steps.{by_signed_lem, by_judged_lem}
-use borrow.Author.Rules.{rules}
 use Rattle.options.proofs.end_at.Goals as goal
 
 pub returns-in-Read-judgement_at : goal.returns-in-Read-judgement_at

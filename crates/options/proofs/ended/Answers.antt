@@ -1,6 +1,5 @@
 -- By whether a word stands there. Assumes nothing.
 use Rattle.forms.proofs.Steps.{by_end}
-use borrow.Author.Rules.{rules}
 use Rattle.options.proofs.ended.Goals as goal
 
 pub returns-then-is_end : goal.returns-then-is_end

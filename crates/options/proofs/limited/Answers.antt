@@ -6,7 +6,6 @@ use borrow.Author.Tests.{not-true, not-false}
 use Rattle.forms.specs.Forms.{end, read_by}
 use Rattle.forms.proofs.Steps.{by_word, by_whole_lem}
 use Rattle.options.specs.Options.{version}
-use borrow.Author.Rules.{rules}
 use mathlib.Core.Bool.{not}
 use Rattle.options.proofs.limited.Goals as goal
 

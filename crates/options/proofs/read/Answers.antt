@@ -12,7 +12,6 @@ use Rattle.forms.specs.Forms.{Form, end, read_by}
 use Rattle.forms.proofs.Steps.{by_word}
 use Rattle.options.specs.Options.{limit, version, behind_stop}
 use Rattle.options.specs.declared.Stop.{Stop}
-use borrow.Author.Rules.{rules}
 use mathlib.Core.Bool.{not}
 use Rattle.options.proofs.read.Goals as goal
 

@@ -1,7 +1,6 @@
 -- The names in their order. Assumes nothing.
 use mathlib.Core.Path.{refl, sym, ◌∙◌}
 use Rattle.orders.specs.Orders.{order_by}
-use borrow.Author.Rules.{rules}
 use Rattle.orders.proofs.named.Goals as goal
 
 pub returns-then-is_word : goal.returns-then-is_word

@@ -6,7 +6,6 @@ use Rattle.numerals.specs.Numbers.{word_whole}
 use Rattle.numerals.specs.declared.digits.Whole.{Whole}
 use Rattle.orders.specs.Orders.{by_whole, ended, numbered_by}
 use Rattle.orders.specs.declared.Order.TheVariants.{Unread}
-use borrow.Author.Rules.{rules}
 use Rattle.orders.proofs.numbered.Goals as goal
 
 pub returns-then-back : goal.returns-then-back

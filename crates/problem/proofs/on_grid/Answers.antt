@@ -1,6 +1,5 @@
 -- `problem::on_grid` meets its contract: the two tests; an end reaches them through its bits. Assumes nothing.
 use mathlib.Core.Path.{◌≡◌, sym, ap, ◌∙◌}
-use borrow.Author.Rules.{rules}
 use lib.IntN.{ℤ}
 use lib.Signed.{le_z}
 use mir.Syntax.{w64}

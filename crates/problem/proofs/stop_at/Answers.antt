@@ -1,6 +1,5 @@
 -- `problem::stop_at` meets its contract: the grid's own ends, and the range tests between them. Assumes nothing.
 use mathlib.Core.Path.{◌≡◌, sym, ap, ◌∙◌}
-use borrow.Author.Rules.{rules}
 use lib.IntN.{ℤ}
 use lib.Signed.{lt_z}
 use mir.Syntax.{w64}

@@ -1,5 +1,4 @@
 -- `problem::test` meets its contract: the first that fails is kept. Assumes nothing.
-use borrow.Author.Rules.{rules}
 use Rattle.problem.specs.Held.{tested_by}
 use Rattle.problem.proofs.test.Goals as goal
 

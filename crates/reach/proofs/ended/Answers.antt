@@ -1,5 +1,4 @@
 -- `reach::ended` meets its contract: each test before the one that answers was passed. Assumes nothing.
-use borrow.Author.Rules.{rules}
 use Rattle.reach.specs.Reach.{judged_x}
 use mathlib.Core.Path.{ap}
 use mathlib.Core.Bool.{not}

@@ -1,5 +1,4 @@
 -- `reach::g` meets its contract. Assumes nothing.
-use mathlib.Core.Path.{refl}
 use Rattle.reach.specs.Reach.{g_of}
 use Rattle.reach.proofs.g.Goals as goal
 

@@ -1,14 +1,8 @@
 -- `reach::nested` meets its contract. At the loop's head g is the nest of the odd numbers from i on; the measure is i. Assumes nothing.
-use Prim.Native.Nat.{ℕ, ◌≤◌, ◌<◌, ◌-◌, suc}
-use mathlib.Core.Path.{◌≡◌, sym, ◌∙◌, ap}
-use mathlib.Core.List.{List}
-use native.Mathlib.Nat.{le_of_eq}
-use lib.ListN.{length, drop, get_or, drop_of_length-le}
-use lib.Seq.{drop-cons}
-use lib.Ieee.{Float, nan}
-use native.Mathlib.Omega.{arith}
-use Rattle.real.specs.F64.{◌⊖◌, ◌⊗◌, ◌⊘◌, f1}
-use Rattle.reach.specs.Reach.{g_nest, f17}
+use Prim.Native.Nat.{◌≤◌, ◌-◌}
+use mathlib.Core.Path.{◌≡◌}
+use lib.ListN.{drop}
+use Rattle.reach.specs.Reach.{g_nest}
 use Rattle.reach.proofs.nested.Given as goal
 
 abbrev pub invariant-loop-i : goal.invariant-loop-i

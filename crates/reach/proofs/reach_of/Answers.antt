@@ -1,5 +1,4 @@
 -- `reach::reach_of` meets its contract. Assumes nothing.
-use borrow.Author.Rules.{rules}
 use Rattle.reach.specs.Reach.{reach_of}
 use Rattle.reach.proofs.reach_of.Goals as goal
 

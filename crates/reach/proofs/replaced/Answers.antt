@@ -1,12 +1,11 @@
 -- `reach::replaced` meets its contract. At the loop's head what is left to do from W comes to the whole; the measure is `left`. Assumes nothing.
 use Prim.Native.Nat.{ℕ, zero, suc, ◌≤◌, ◌<◌, ◌-◌}
-use mathlib.Core.Path.{◌≡◌, refl, sym, ◌∙◌}
+use mathlib.Core.Path.{◌≡◌, sym, ◌∙◌}
 use mathlib.Core.Bool.{true, false, not}
 use native.Mathlib.Omega.{arith}
 use lib.Ieee.{Float}
 use Rattle.real.specs.F64.{◌⊕◌, ◌⊗◌, ◌≤ᶠ◌, ◌<ᶠ◌, f0}
 use Rattle.root.specs.Root.{root_of}
-use borrow.Author.Rules.{rules}
 use Rattle.reach.specs.declared.Arc.{Arc}
 use Rattle.table.specs.declared.Name.TheVariants.{W, Radicand}
 use Rattle.table.specs.declared.Limit.TheVariants.{AtLeast}

@@ -1,5 +1,4 @@
 -- `reach::time_at` meets its contract. Assumes nothing.
-use borrow.Author.Rules.{rules}
 use mathlib.Core.Path.{sym, ◌∙◌}
 use Rattle.reach.specs.Reach.{timed}
 use Rattle.reach.proofs.time_at.Goals as goal

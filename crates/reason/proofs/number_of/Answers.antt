@@ -1,5 +1,4 @@
 -- `reason::number_of` meets its contract: case by case. Assumes nothing.
-use borrow.Author.Rules.{rules}
 use Rattle.reason.specs.Reasons.{reason_number}
 use Rattle.reason.proofs.number_of.Goals as goal
 

@@ -1,5 +1,4 @@
 -- The word, and what stopped it. Assumes nothing.
-use borrow.Author.Rules.{rules}
 use Rattle.text.specs.Pieces.{then}
 use Rattle.text.proofs.Lays.{one, and_then}
 use Rattle.reasons.specs.Lines.{because_pieces}

@@ -1,5 +1,4 @@
 -- The end of the grid, or a test. Assumes nothing.
-use borrow.Author.Rules.{rules}
 use Rattle.text.proofs.Lays.{one}
 use Rattle.reasons.proofs.stop.Goals as goal
 

@@ -1,5 +1,4 @@
 -- By the reason. Assumes nothing.
-use borrow.Author.Rules.{rules}
 use Rattle.text.proofs.Lays.{one}
 use Rattle.reasons.proofs.tell.Goals as goal
 

@@ -1,5 +1,4 @@
 -- The number, the word and the test. Assumes nothing.
-use borrow.Author.Rules.{rules}
 use Rattle.text.specs.Pieces.{then}
 use Rattle.text.proofs.Lays.{one, and_then}
 use Rattle.reasons.specs.Lines.{test_pieces}

@@ -5,7 +5,6 @@ use mir.Syntax.{w64}
 use mir.Facts.{to_z-of_z}
 use Rattle.flight.specs.Flight.{too_far, flown_of}
 use Rattle.replay.specs.Replay.{both_of}
-use borrow.Author.Rules.{rules}
 use Rattle.replay.proofs.fly_both.Goals as goal
 
 pub returns-then-a-b : goal.returns-then-a-b

@@ -1,6 +1,5 @@
 -- Case by case. Assumes nothing.
 use Rattle.replay.specs.Replay.{met_of}
-use borrow.Author.Rules.{rules}
 use Rattle.replay.proofs.meet.Goals as goal
 
 pub returns-in-Refused : goal.returns-in-Refused

@@ -4,7 +4,6 @@ use lib.IntN.{ℤ}
 use mir.Syntax.{w64}
 use mir.Facts.{to_z-of_z}
 use Rattle.replay.specs.Replay.{both_of, pair_of}
-use borrow.Author.Rules.{rules}
 use Rattle.replay.proofs.pair_from.Goals as goal
 
 pub returns-in-Unset : goal.returns-in-Unset

@@ -1,6 +1,5 @@
 -- By the record's kind. Assumes nothing.
 use Rattle.replay.specs.Replay.{step_of}
-use borrow.Author.Rules.{rules}
 use Rattle.replay.proofs.step.Goals as goal
 
 pub returns-in-State : goal.returns-in-State

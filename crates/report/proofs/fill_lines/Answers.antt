@@ -1,10 +1,6 @@
 -- Each turn puts one more line behind those made; the measure is how many steps are left. Assumes nothing.
-use native.Mathlib.Omega.{arith}
 use mathlib.Core.Path.{sym, ◌∙◌}
-use lib.ListN.{length}
-use borrow.Author.Rules.{rules}
-use Rattle.report.specs.Listing.{steps_from}
-use Rattle.report.proofs.Parts.{Part, begin, full, done, more, one_less}
+use Rattle.report.proofs.Parts.{full, done, more, one_less}
 use Rattle.report.proofs.fill_lines.Goals as goal
 
 pub returns-then-is_done : goal.returns-then-is_done

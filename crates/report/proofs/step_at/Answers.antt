@@ -1,13 +1,7 @@
 -- Each answer of the reader by its line; a refusal's number fits a byte. Assumes nothing.
 use native.Mathlib.Omega.{arith}
-use mathlib.Core.Path.{refl, sym, ap, ◌∙◌}
-use mir.Syntax.{w16}
-use mir.Facts.{to_z-of_z}
+use mathlib.Core.Path.{sym, ◌∙◌}
 use Rattle.session.proofs.Refusals.{refusal-number}
-use Rattle.lines.specs.Lines.{record_text, refused_text}
-use Rattle.text.proofs.Fronts.{long-enough}
-use Rattle.report.specs.Listing.{made_length}
-use borrow.Author.Rules.{rules}
 use Rattle.report.proofs.step_at.Goals as goal
 
 pub overflow_cast-number : goal.overflow_cast-number

@@ -1,6 +1,6 @@
 -- `root::by_digits` meets its contract. The invariant, after i turns: a * 4 ^ i is s * s + rem, followed by the rest. Assumes nothing.
-use Rattle.std.proofs.Common.{◌≡◌, ℕ, ◌+◌, ◌-◌, ◌*◌, ◌/◌, ◌%◌, ◌^◌, ◌<◌, ◌≤◌, subst, ⊎_elim, mul-one, arith}
-use Rattle.root.proofs.Digits.{turn, twice, below-53, last_turn, square-even, square-odd, square-next}
+use Rattle.std.proofs.Common.{◌≡◌, ℕ, ◌+◌, ◌-◌, ◌*◌, ◌/◌, ◌%◌, ◌<◌, ◌≤◌, arith}
+use Rattle.root.proofs.Digits.{turn, twice, below-53, square-even, square-odd}
 use Rattle.root.proofs.by_digits.Invariants.{Inv}
 use Rattle.root.proofs.by_digits.Goals as goal
 use Rattle.root.proofs.by_digits.Goals.{then-t-rem, else-t-rem}

@@ -1,6 +1,5 @@
 -- `root::by_digits` meets its contract. The invariant, after i turns: a * 4 ^ i is s * s + rem, followed by the rest. Assumes nothing.
-use Rattle.std.proofs.Common.{◌≡◌, ℕ, ◌+◌, ◌-◌, ◌*◌, ◌/◌, ◌%◌, ◌^◌, ◌<◌, ◌≤◌, subst, ⊎_elim, mul-one, arith}
-use Rattle.root.proofs.Digits.{turn, twice, below-53, last_turn, square-even, square-odd, square-next}
+use Rattle.std.proofs.Common.{◌≡◌, ℕ, ◌+◌, ◌-◌, ◌*◌, ◌^◌, ◌<◌, ◌≤◌}
 use Rattle.root.proofs.by_digits.Given as goal
 
 abbrev pub Inv : (a rest rem s i : ℕ) → Type 0

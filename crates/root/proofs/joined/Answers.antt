@@ -1,5 +1,5 @@
 -- `root::joined` meets its contract. Assumes nothing.
-use Rattle.std.proofs.Common.{◌≡◌, ℕ, ◌+◌, ◌-◌, ◌*◌, ◌/◌, ◌%◌, ◌^◌, ◌<◌, ◌≤◌, sym, ap, ◌∙◌, subst, lt_of_le_of_lt, mod-eq_of_lt, arith, lit<, rules}
+use Rattle.std.proofs.Common.{◌≡◌, ℕ, ◌+◌, ◌-◌, ◌*◌, ◌/◌, ◌%◌, ◌^◌, ◌<◌, ◌≤◌, sym, subst, lt_of_le_of_lt, mod-eq_of_lt, arith, lit<}
 use Rattle.root.specs.Root.{whole_root}
 use Rattle.root.proofs.Roots.{scaled-range}
 use Rattle.root.proofs.Answers.{whole-root-lt}

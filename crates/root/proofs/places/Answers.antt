@@ -1,6 +1,6 @@
 -- `root::places` meets its contract: m is not 0, so it has a highest digit, of place j, and the zeros above it make 64 with j + 1. Assumes nothing.
 use Rattle.std.proofs.Common.{◌≡◌, ℕ, suc, ◌+◌, ◌-◌, ◌*◌, ◌^◌, ◌<◌, ◌≤◌, subst, le_trans, le_of_eq, lt_of_le_of_lt, mul-le-mul_right, arith, pow-add, shl_lt}
-use lib.Count.{count_leading_zeros, leading_le, leading_top}
+use lib.Count.{count_leading_zeros, leading_top}
 use Rattle.root.proofs.Digits.{pow_below}
 use Rattle.root.proofs.places.Goals as goal
 

@@ -1,5 +1,5 @@
 -- `root::root` meets its contract: its answer is told by whether the √ is below the infinity. Assumes nothing.
-use Rattle.std.proofs.Common.{T, sym, subst, rules}
+use Rattle.std.proofs.Common.{T, sym, subst}
 use Rattle.root.proofs.Near.{answered, refused}
 use Rattle.root.proofs.root.Goals as goal
 

@@ -1,7 +1,5 @@
 -- `root::settled` meets its contract. Assumes nothing.
-use Rattle.std.proofs.Common.{arith, rules}
-use Rattle.root.proofs.Digits.{root-small}
-use Rattle.root.proofs.Settle.{under, left, few, low, high, by-root}
+use Rattle.root.proofs.Settle.{left, few, low, high, by-root}
 use Rattle.root.proofs.settled.Goals as goal
 
 pub returns-then-q-v : goal.returns-then-q-v

@@ -1,13 +1,12 @@
 -- The room, tested once; all lines fit it. Assumes nothing.
 use native.Mathlib.Omega.{arith}
-use mathlib.Core.Path.{refl, ap, ◌∙◌}
-use borrow.Author.Tests.{lt-ltb, le-ltb}
+use mathlib.Core.Path.{ap, ◌∙◌}
+use borrow.Author.Tests.{le-ltb}
 use Rattle.session.specs.Read.{read_at}
 use Rattle.text.proofs.Stand.{at_front}
 use Rattle.text.proofs.Lays.{all_fit}
 use Rattle.script.specs.Script.{shown_as}
 use Rattle.script.proofs.Lengths.{all-fit-room}
-use borrow.Author.Rules.{rules}
 use Rattle.script.proofs.show_at.Goals as goal
 
 pub returns : goal.returns

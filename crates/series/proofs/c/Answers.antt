@@ -1,5 +1,4 @@
 -- `series::c` meets its contract: each answer is what the definition picks by the tests that led there. Assumes nothing.
-use borrow.Author.Rules.{rules}
 use Rattle.series.specs.Series.{answer}
 use mathlib.Core.Path.{ap}
 use mathlib.Core.Bool.{not}

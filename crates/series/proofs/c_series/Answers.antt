@@ -1,5 +1,4 @@
 -- `series::c_series` meets its contract. Assumes nothing.
-use mathlib.Core.Path.{refl}
 use Rattle.series.specs.Series.{c_series}
 use Rattle.series.proofs.c_series.Goals as goal
 

@@ -1,5 +1,4 @@
 -- `series::is_small` meets its contract. Assumes nothing.
-use borrow.Author.Rules.{rules}
 use Rattle.series.specs.Series.{small}
 use Rattle.series.proofs.is_small.Goals as goal
 

@@ -1,5 +1,5 @@
 -- `series::nested` meets its contract. At the loop's head p is the nest of the divisors from i on; the measure is i. Assumes nothing.
-use Prim.Native.Nat.{ℕ, ◌≤◌, ◌<◌, ◌-◌, suc}
+use Prim.Native.Nat.{ℕ, ◌<◌, ◌-◌, suc}
 use mathlib.Core.Path.{◌≡◌, sym, ◌∙◌, ap}
 use mathlib.Core.List.{List}
 use native.Mathlib.Nat.{le_of_eq}

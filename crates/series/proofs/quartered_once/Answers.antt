@@ -1,5 +1,4 @@
 -- `series::quartered_once` meets its contract: at most one quartering, by the test of ξ's size. Assumes nothing.
-use borrow.Author.Rules.{rules}
 use mathlib.Core.Path.{sym, ap, ◌∙◌}
 use Rattle.series.specs.Series.{from_quarter}
 use Rattle.series.proofs.Quarterings.{at_none, at_small, at-quarter}

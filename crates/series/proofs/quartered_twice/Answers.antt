@@ -1,5 +1,4 @@
 -- `series::quartered_twice` meets its contract: at most two quarterings, by the test of ξ's size. Assumes nothing.
-use borrow.Author.Rules.{rules}
 use mathlib.Core.Path.{sym, ap, ◌∙◌}
 use Rattle.series.specs.Series.{from_quarter}
 use Rattle.series.proofs.Quarterings.{at_small, at-quarter}

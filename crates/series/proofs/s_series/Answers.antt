@@ -1,5 +1,4 @@
 -- `series::s_series` meets its contract. Assumes nothing.
-use mathlib.Core.Path.{refl}
 use Rattle.series.specs.Series.{s_series}
 use Rattle.series.proofs.s_series.Goals as goal
 

@@ -3,24 +3,21 @@
 use mir.Syntax.{w16}
 use mir.Facts.{to_z-of_z}
 use mir.Val.{SFits}
-use Prim.Native.Nat.{◌+◌}
 use native.Mathlib.Omega.{arith}
 use mathlib.Core.Path.{◌≡◌, sym, ap, ◌∙◌}
 use mathlib.Core.Bool.{true, false}
-use lib.ListN.{drop, length-drop}
+use lib.ListN.{drop}
 use lib.Dec.{eqb}
 use lib.IntN.{ℤ}
-use borrow.Author.Tests.{le-ltb, lt-ltb, eq-eqb, ne_eqb, not-true, not-false}
-use Rattle.session.specs.declared.Reading.TheVariants.{Record, Offset}
+use borrow.Author.Tests.{le-ltb, ne_eqb, not-false}
+use Rattle.session.specs.declared.Reading.TheVariants.{Offset}
 use Rattle.session.specs.declared.record.Decoded.{Decoded}
 use Rattle.session.specs.Limits.{offset_allowed}
 use Rattle.session.specs.Offset.{decode_at}
 use Rattle.session.specs.Read.{placed}
 use Rattle.session.proofs.Limits.{offset-small}
-use Rattle.session.proofs.Heads.{whole-fits}
-use Rattle.session.proofs.Offsets.{at-whole, at_offset}
+use Rattle.session.proofs.Offsets.{at_offset}
 use Rattle.field.proofs.Fields.{rest}
-use borrow.Author.Rules.{rules}
 use mathlib.Core.Bool.{not}
 use Rattle.session.proofs.read.Goals as goal
 

@@ -1,12 +1,10 @@
 -- The cases of going back. Assumes nothing.
 use mathlib.Core.Path.{◌≡◌, refl, sym, ap, ◌∙◌}
 use lib.ListN.{take}
-use lib.Seq.{length-take-le}
 use Rattle.settings.specs.declared.allowed.Setting.{Setting}
 use Rattle.settings.specs.declared.Looked.TheVariants as L
 use Rattle.settings.specs.History.{look_up, buffer_after}
 use Rattle.settings.proofs.Cases.{beyond, copied, not-copied, found-is}
-use borrow.Author.Rules.{rules}
 use Rattle.settings.proofs.go_back.Goals as goal
 
 pub returns-then-used-buf : goal.returns-then-used-buf

@@ -9,7 +9,6 @@ use Rattle.text.proofs.Lays.{all_fit}
 use Rattle.settings.specs.Layout.{version_bytes}
 use Rattle.settings.specs.History.{buffer_after}
 use Rattle.settings.proofs.Versions.{version-length}
-use borrow.Author.Rules.{rules}
 use Rattle.settings.proofs.put_next.Goals as goal
 
 pub returns-then-n-ge64 : goal.returns-then-n-ge64

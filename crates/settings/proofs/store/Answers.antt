@@ -1,15 +1,11 @@
 -- The cases of storing. Assumes nothing.
 use mathlib.Core.Path.{◌≡◌, refl, sym, ap, ◌∙◌}
 use mathlib.Core.Bool.{true}
-use lib.ListN.{take}
-use lib.Seq.{length-take-le}
 use borrow.Author.Tests.{not-true, not-false}
 use Rattle.settings.specs.declared.Stored.TheVariants.{Refused}
 use Rattle.settings.specs.Allowed.{refusal_of}
-use Rattle.settings.specs.Layout.{are_whole}
 use Rattle.settings.specs.History.{buffer_after}
-use Rattle.settings.proofs.Cases.{outside, not-whole, not-allowed, stored}
-use borrow.Author.Rules.{rules}
+use Rattle.settings.proofs.Cases.{outside, not-whole, not-allowed}
 use mathlib.Core.Bool.{not}
 use Rattle.settings.proofs.store.Goals as goal
 

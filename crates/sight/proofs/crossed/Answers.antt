@@ -1,5 +1,5 @@
 -- `sight::crossed` meets its contract. Assumes nothing.
-use Rattle.std.proofs.Common.{sym, ap, ◌∙◌, rules}
+use Rattle.std.proofs.Common.{sym, ap, ◌∙◌}
 use Rattle.table.specs.declared.Test.{Test}
 use Rattle.sight.specs.declared.Sight.TheVariants.{Crossed}
 use Rattle.sight.specs.Sight.{answered}

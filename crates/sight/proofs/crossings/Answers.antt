@@ -1,5 +1,5 @@
 -- `sight::crossings` meets its contract: past the tests the wheel answers, so that its refusal is never passed on. Assumes nothing.
-use Rattle.std.proofs.Common.{◌≡◌, ℕ, sym, refl, ap, ◌∙◌, arith, rules}
+use Rattle.std.proofs.Common.{◌≡◌, ℕ, sym, refl, ap, ◌∙◌, arith}
 use Rattle.table.specs.declared.Test.{Test}
 use Rattle.table.specs.declared.Test.TheVariants.{Passed}
 use Rattle.table.specs.Tests.{told, ◌▷◌}

@@ -2,7 +2,6 @@
 use mathlib.Core.Path.{sym, ap, ◌∙◌}
 use Rattle.numerals.specs.Numbers.{word_number}
 use Rattle.forms.proofs.Steps.{by_number_lem}
-use borrow.Author.Rules.{rules}
 use Rattle.single.proofs.trial.Goals as goal
 
 pub returns-in-Read : goal.returns-in-Read

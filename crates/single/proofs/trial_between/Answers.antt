@@ -5,7 +5,6 @@ use mir.Facts.{to_z-of_z}
 use Rattle.forms.specs.declared.parts.Ends.{Ends}
 use Rattle.forms.specs.Parts.{behind_ends}
 use Rattle.single.specs.Single.{trial_judged}
-use borrow.Author.Rules.{rules}
 use Rattle.single.proofs.trial_between.Goals as goal
 
 pub returns-in-Read : goal.returns-in-Read

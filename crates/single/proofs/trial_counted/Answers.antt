@@ -4,7 +4,6 @@ use mir.Syntax.{w64}
 use mir.Facts.{to_z-of_z}
 use Rattle.numerals.specs.Numbers.{word_whole}
 use Rattle.forms.proofs.Steps.{by_whole_lem, by_end}
-use borrow.Author.Rules.{rules}
 use Rattle.single.proofs.trial_counted.Goals as goal
 
 pub returns-then-is_end : goal.returns-then-is_end

@@ -5,7 +5,6 @@ use mir.Facts.{to_z-of_z}
 use Rattle.forms.specs.declared.parts.Sides.{Sides}
 use Rattle.forms.specs.Parts.{behind_sides}
 use Rattle.single.specs.Single.{trial_counted}
-use borrow.Author.Rules.{rules}
 use Rattle.single.proofs.trial_judged.Goals as goal
 
 pub returns-in-Read : goal.returns-in-Read

@@ -1,6 +1,5 @@
 -- `solve::advance` meets its contract: from the start 74 trials are no limit. Assumes nothing.
 use mathlib.Core.Path.{◌∙◌}
-use borrow.Author.Rules.{rules}
 use lib.Dec.{lit≤}
 use Rattle.solve.proofs.LimitedAdvance.{advance-free}
 use Rattle.solve.proofs.advance.Goals as goal

@@ -1,5 +1,4 @@
 -- `solve::advance_limited` meets its contract: what the bracket that the trials end on comes to. Assumes nothing.
-use borrow.Author.Rules.{rules}
 use mathlib.Core.Path.{◌≡◌, sym, ap, ◌∙◌}
 use lib.Ieee.{Float}
 use Rattle.real.specs.F64.{size_of}

@@ -1,6 +1,6 @@
 -- `solve::advanced_as` meets its contract: case by case. Assumes nothing.
 use mathlib.Core.Path.{◌≡◌, sym, ap, ◌∙◌}
-use borrow.Author.Rules.{rules, sfits_of}
+use borrow.Author.Rules.{sfits_of}
 use lib.IntN.{ℤ}
 use mir.Facts.{to_z-of_z}
 use mir.Syntax.{w64}
@@ -19,16 +19,23 @@ returns-in-TooLong c = simp c.in-TooLong.is
 pub returns-in-InRange : goal.returns-in-InRange
 unfolding advanced_as advanced_at
 returns-in-InRange c =
-    simp (c.in-Met.is, sym (let arrival : let a = c.args in
-    c.arrive.result ≡ arrival_of a.m a.from c.in-Met.x.n = let a = c.args in
-    c.arrive.ensures ∙ ap (λ (z : ℤ). arrival_of a.m a.from z) (to_z-of_z {w = w64} {z = c.in-Met.x.n} (sfits_of c.struct_told-1.given.0.1)) in arrival) ∙ c.in-InRange.is, c.turned.ensures)
+    simp (
+      c.in-Met.is,
+      sym (let arrival : let a = c.args in
+          c.arrive.result ≡ arrival_of a.m a.from c.in-Met.x.n = let a = c.args in
+          c.arrive.ensures ∙ ap (λ (z : ℤ). arrival_of a.m a.from z) (to_z-of_z {w = w64} {z = c.in-Met.x.n} (sfits_of c.struct_told-1.given.0.1)) in arrival) ∙ c.in-InRange.is,
+      c.turned.ensures,
+    )
 
 pub returns-in-OutOfRange : goal.returns-in-OutOfRange
 unfolding advanced_as advanced_at
 returns-in-OutOfRange c =
-    simp (c.in-Met.is, sym (let arrival : let a = c.args in
-    c.arrive.result ≡ arrival_of a.m a.from c.in-Met.x.n = let a = c.args in
-    c.arrive.ensures ∙ ap (λ (z : ℤ). arrival_of a.m a.from z) (to_z-of_z {w = w64} {z = c.in-Met.x.n} (sfits_of c.struct_told-1.given.0.1)) in arrival) ∙ c.in-OutOfRange.is)
+    simp (
+      c.in-Met.is,
+      sym (let arrival : let a = c.args in
+          c.arrive.result ≡ arrival_of a.m a.from c.in-Met.x.n = let a = c.args in
+          c.arrive.ensures ∙ ap (λ (z : ℤ). arrival_of a.m a.from z) (to_z-of_z {w = w64} {z = c.in-Met.x.n} (sfits_of c.struct_told-1.given.0.1)) in arrival) ∙ c.in-OutOfRange.is,
+    )
 
 pub returns-in-NotFinished : goal.returns-in-NotFinished
 unfolding advanced_as

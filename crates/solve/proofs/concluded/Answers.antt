@@ -1,5 +1,4 @@
 -- `solve::concluded` meets its contract: by whether the ends are neighbours. Assumes nothing.
-use borrow.Author.Rules.{rules}
 use mathlib.Core.Path.{◌≡◌, sym, ◌∙◌}
 use mathlib.Core.Bool.{true, false}
 use lib.Ieee.{Float}

@@ -1,7 +1,6 @@
 -- `solve::kepler_ahead` meets its contract: row 1 with the times of a continuation, then the ranges. Assumes nothing.
 use mathlib.Core.Path.{ap, ◌∙◌}
 use mathlib.Core.List.{◌++◌}
-use borrow.Author.Rules.{rules}
 use Rattle.table.specs.declared.Test.{Test}
 use Rattle.table.specs.declared.Test.TheVariants.{Passed}
 use Rattle.table.specs.Tests.{◌▷◌}

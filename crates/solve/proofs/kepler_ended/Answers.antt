@@ -1,5 +1,4 @@
 -- `solve::kepler_ended` meets its contract: the tests ahead and the fall are those of the advance's own numbers. Assumes nothing.
-use borrow.Author.Rules.{rules}
 use Prim.Native.Nat.{ℕ}
 use mathlib.Core.Path.{ap, ◌∙◌}
 use lib.Ieee.{Float}

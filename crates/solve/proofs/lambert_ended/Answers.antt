@@ -1,5 +1,4 @@
 -- `solve::lambert_ended` meets its contract: the tests ahead are those of the transfer's own numbers, and none stands behind. Assumes nothing.
-use borrow.Author.Rules.{rules}
 use mathlib.Core.Path.{ap, ◌∙◌}
 use Rattle.table.specs.declared.Test.{Test}
 use Rattle.table.specs.declared.Test.TheVariants.{Passed}

@@ -1,6 +1,5 @@
 -- `solve::transfer_velocity` meets its contract: from the start 52 trials are no limit. Assumes nothing.
 use mathlib.Core.Path.{◌∙◌}
-use borrow.Author.Rules.{rules}
 use lib.Dec.{lit≤}
 use Rattle.solve.proofs.LimitedTransfer.{transfer-free}
 use Rattle.solve.proofs.transfer_velocity.Goals as goal

@@ -1,5 +1,4 @@
 -- `solve::transfer_velocity_limited` meets its contract: what the bracket that the trials end on comes to. Assumes nothing.
-use borrow.Author.Rules.{rules}
 use mathlib.Core.Path.{sym, ap, ◌∙◌}
 use Rattle.lambert.specs.declared.Transfer.{Transfer}
 use Rattle.lambert.specs.Lambert.{transfer_of}

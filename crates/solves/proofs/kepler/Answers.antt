@@ -7,7 +7,6 @@ use Rattle.forms.proofs.Rows.{first-there, first-bad}
 use Rattle.options.specs.Options.{asked}
 use Rattle.options.specs.declared.Options.{Options}
 use Rattle.solves.proofs.Lists.{kepler_ask, kepler_go}
-use borrow.Author.Rules.{rules}
 use Rattle.solves.proofs.kepler.Goals as goal
 
 pub returns-then-w-ne0 : goal.returns-then-w-ne0

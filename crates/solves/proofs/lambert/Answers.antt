@@ -9,7 +9,6 @@ use Rattle.options.specs.declared.Options.{Options}
 use Rattle.solves.specs.declared.Round.{Round}
 use Rattle.solves.specs.Solves.{behind_way}
 use Rattle.solves.proofs.Lists.{lambert_ask, lambert_end, lambert_go}
-use borrow.Author.Rules.{rules}
 use Rattle.solves.proofs.lambert.Goals as goal
 
 pub returns-then-w-ne0 : goal.returns-then-w-ne0

@@ -5,8 +5,6 @@ use Rattle.forms.specs.Forms.{numbers}
 use Rattle.forms.proofs.Rows.{first-there, first-bad}
 use Rattle.solves.proofs.Lists.{normal_go}
 use native.Mathlib.Omega.{arith}
-use borrow.Author.Rules.{rules}
-use Rattle.forms.proofs.numbers.Reads as numbers-reads
 use Rattle.solves.proofs.normal_at.Goals as goal
 
 pub returns-then-w-ne0 : goal.returns-then-w-ne0

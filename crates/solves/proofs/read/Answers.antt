@@ -1,7 +1,6 @@
 -- The table's names, in their order. Assumes nothing.
 use mathlib.Core.Path.{◌∙◌}
 use Rattle.forms.proofs.Steps.{by_word, by-none}
-use borrow.Author.Rules.{rules}
 use Rattle.solves.proofs.read.Goals as goal
 
 pub returns-then-is_word : goal.returns-then-is_word

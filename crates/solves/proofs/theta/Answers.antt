@@ -6,7 +6,6 @@ use lib.Ieee.{Float}
 use Rattle.forms.specs.Forms.{numbers}
 use Rattle.forms.proofs.Rows.{all_there, one-bad}
 use Rattle.solves.proofs.Lists.{theta_of}
-use borrow.Author.Rules.{rules}
 use native.Mathlib.Omega.{arith}
 use Rattle.solves.proofs.theta.Goals as goal
 

@@ -1,10 +1,6 @@
 -- One of three words. Assumes nothing.
 use mathlib.Core.Path.{◌∙◌}
 use Rattle.forms.proofs.Steps.{by_word, by-none}
-use borrow.Author.Rules.{rules}
-use Rattle.solves.proofs.normal_at.Reads as normal-at-reads
-use Rattle.words.proofs.is_word.Reads as is-word-reads
-use Rattle.words.proofs.word.Reads as word-reads
 use Rattle.solves.proofs.way_at.Goals as goal
 
 pub returns-then-is_word : goal.returns-then-is_word

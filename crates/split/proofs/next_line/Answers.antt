@@ -1,8 +1,6 @@
 -- Each turn passes a byte; the measure is what is left of the part. Assumes nothing.
 use Prim.Native.Nat.{◌-◌}
-use native.Mathlib.Omega.{arith}
-use lib.ListN.{length}
-use Rattle.split.proofs.Turns.{Passed, begin, is-line, is-kept, same-room, goes_in, goes_by}
+use Rattle.split.proofs.Turns.{is-line, is-kept, goes_in, goes_by}
 use Rattle.split.proofs.next_line.Goals as goal
 
 pub returns-then-b-eq10 : goal.returns-then-b-eq10

@@ -1,8 +1,7 @@
 -- Each turn passes a byte; the measure is what is left of the part. Assumes nothing.
 use Prim.Native.Nat.{◌-◌}
-use native.Mathlib.Omega.{arith}
 use lib.ListN.{length}
-use Rattle.split.proofs.Turns.{Passed, begin, is-line, is-kept, same-room, goes_in, goes_by}
+use Rattle.split.proofs.Turns.{Passed}
 use Rattle.split.proofs.next_line.Given as goal
 
 abbrev pub invariant-loop-i : goal.invariant-loop-i

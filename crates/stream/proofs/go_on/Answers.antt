@@ -6,7 +6,6 @@ use Prim.Native.Nat.{◌+◌, ◌-◌}
 use native.Mathlib.Omega.{arith}
 use mathlib.Core.Path.{◌≡◌, sym, ap, ◌∙◌}
 use lib.ListN.{take}
-use lib.Seq.{length-take-le}
 use lib.Dec.{eqb}
 use lib.IntN.{ℤ}
 use Rattle.session.specs.declared.record.Decoded.TheVariants as D
@@ -15,8 +14,7 @@ use Rattle.session.proofs.Offsets.{at_offset}
 use Rattle.session.proofs.Refusals.{decode-number}
 use Rattle.stream.specs.declared.Step.TheVariants as S
 use Rattle.stream.specs.Stream.{found_at}
-use Rattle.stream.proofs.Steps.{Lies, inner, filled, record-fits, is-record, offset-within, is_offset_lem, is-cut-short, is-refused, kept-short}
-use borrow.Author.Rules.{rules}
+use Rattle.stream.proofs.Steps.{Lies, filled, record-fits, is-record, offset-within, is_offset_lem, is-cut-short, is-refused, kept-short}
 use Rattle.stream.proofs.go_on.Goals as goal
 
 pub add-seen-requires : goal.add-seen-requires

@@ -5,10 +5,9 @@ use mathlib.Core.Path.{◌≡◌, sym, ap, ◌∙◌}
 use mathlib.Core.Bool.{true, false}
 use lib.ListN.{length}
 use lib.Dec.{ltb}
-use borrow.Author.Tests.{ltb-false, not-true, not-false}
+use borrow.Author.Tests.{ltb-false, not-false}
 use Rattle.stream.specs.Stream.{most_bytes}
-use Rattle.stream.proofs.Opens.{sound, is-over, is-small, is-unsound, is-passed, is-empty}
-use borrow.Author.Rules.{rules}
+use Rattle.stream.proofs.Opens.{sound, is-passed, is-empty}
 use mathlib.Core.Bool.{not}
 use Rattle.stream.proofs.take_open.Goals as goal
 

@@ -1,6 +1,5 @@
 -- `table::tell` meets its contract. Assumes nothing.
 use Rattle.table.specs.Tests.{told}
-use borrow.Author.Rules.{rules}
 use Rattle.table.proofs.tell.Goals as goal
 
 pub returns-then-met : goal.returns-then-met

@@ -1,10 +1,7 @@
 -- The loop has put the first i bytes of the text; the measure is what is left of it. Assumes nothing.
-use Prim.Native.Nat.{zero-le, ◌+◌, ◌-◌, ◌≤◌}
-use native.Mathlib.Nat.{add-zero}
+use Prim.Native.Nat.{◌+◌, ◌-◌, ◌≤◌}
 use lib.ListN.{length, take}
 use Rattle.text.specs.Text.{Stands}
-use Rattle.text.proofs.Stand.{none, same_size, grow, grown}
-use native.Mathlib.Omega.{arith}
 use Rattle.text.proofs.copy.Given as goal
 
 abbrev pub invariant-loop-i : goal.invariant-loop-i

@@ -1,6 +1,5 @@
 -- A digit under ten, and one from ten on. Assumes nothing.
 use mathlib.Core.Path.{refl}
-use borrow.Author.Rules.{rules}
 use borrow.Author.Tests.{lt-ltb, le-ltb}
 use Rattle.text.specs.Text.{digit_text}
 use Rattle.text.proofs.digit.Goals as goal

@@ -1,11 +1,8 @@
 -- The minus and the digits stand one behind the other. Assumes nothing.
 use native.Mathlib.Omega.{arith}
-use mathlib.Core.Path.{sym, ◌∙◌}
-use borrow.Author.Tests.{leb-true, leb-false}
-use Rattle.text.proofs.Puts.{put, kept}
-use Rattle.text.proofs.Stand.{then, same_size}
+use Rattle.text.proofs.Puts.{put}
+use Rattle.text.proofs.Stand.{then}
 use Rattle.text.proofs.Decimals.{at_most}
-use borrow.Author.Rules.{rules}
 use Rattle.text.proofs.minus.Goals as goal
 
 pub overflow_add-k : goal.overflow_add-k

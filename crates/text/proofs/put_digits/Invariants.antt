@@ -1,13 +1,10 @@
 -- The loop has put all digits but the first i: whoever puts those, the last i of m, gets the whole. The measure is i. Assumes nothing.
-use Prim.Native.Nat.{ℕ, ◌+◌, ◌%◌, ◌≤◌}
-use native.Mathlib.Nat.{add-zero}
-use native.Mathlib.Omega.{arith}
-use mathlib.Core.Path.{◌≡◌, refl, sym, ap, ◌∙◌}
+use Prim.Native.Nat.{ℕ, ◌+◌, ◌≤◌}
+use mathlib.Core.Path.{◌≡◌}
 use mathlib.Core.List.{List}
-use lib.ListN.{length, length-set}
+use lib.ListN.{length}
 use Rattle.text.specs.Text.{Stands, decimal}
-use Rattle.text.proofs.Stand.{none, last-first}
-use Rattle.text.proofs.Decimals.{lasts, lasts-more, all-lasts}
+use Rattle.text.proofs.Decimals.{lasts}
 use Rattle.text.proofs.put_digits.Given as goal
 
 abbrev pub invariant-loop-i : goal.invariant-loop-i

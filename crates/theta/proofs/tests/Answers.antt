@@ -1,7 +1,6 @@
 -- `theta::tests` meets its contract. Assumes nothing.
 use Rattle.table.proofs.Laws.{first_failing_lem}
 use Rattle.theta.specs.Theta.{theta_tests}
-use borrow.Author.Rules.{rules}
 use Rattle.theta.proofs.tests.Goals as goal
 
 pub returns : goal.returns

@@ -3,7 +3,6 @@ use mathlib.Core.Path.{◌≡◌, sym, ap, ◌∙◌}
 use Rattle.table.specs.declared.Test.{Test}
 use Rattle.theta.specs.Theta.{transfer_time_by, arc_of, answered, theta_from}
 use Rattle.reach.specs.Reach.{reach_of}
-use borrow.Author.Rules.{rules}
 use Rattle.theta.proofs.time_theta.Goals as goal
 
 pub returns-in-Passed : goal.returns-in-Passed

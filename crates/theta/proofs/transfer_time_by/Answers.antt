@@ -1,6 +1,5 @@
 -- `theta::transfer_time_by` meets its contract. Assumes nothing.
 use Rattle.theta.specs.Theta.{transfer_time_by}
-use borrow.Author.Rules.{rules}
 use Rattle.theta.proofs.transfer_time_by.Goals as goal
 
 pub returns-in-Time : goal.returns-in-Time

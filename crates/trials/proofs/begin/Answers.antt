@@ -1,5 +1,4 @@
 -- `trials::begin` meets its contract: case by case. Assumes nothing.
-use borrow.Author.Rules.{rules}
 use mathlib.Core.Path.{sym, ◌∙◌}
 use Rattle.trials.specs.Ended.{begun_by, begun_of}
 use Rattle.trials.proofs.begin.Goals as goal

@@ -1,5 +1,4 @@
 -- `trials::ended_from` meets its contract: the tests in their parts, then the trials, which can begin at any bracket that passes row 6. Assumes nothing.
-use borrow.Author.Rules.{rules}
 use mathlib.Core.Path.{sym, ap, ◌∙◌}
 use Rattle.trials.specs.Ended.{ended_from}
 use Rattle.trials.specs.declared.Ended.TheVariants as E

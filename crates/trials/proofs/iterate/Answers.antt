@@ -15,7 +15,7 @@ use Rattle.problem.specs.Problems.{judge_of}
 use Rattle.trials.specs.Span.{bracket_of}
 use Rattle.trials.proofs.Standing.{Standing, standing, standing-grid}
 use Rattle.trials.proofs.Spans.{span-back}
-use Rattle.trials.proofs.Going.{Going, room, going_next, going-last, going-stop}
+use Rattle.trials.proofs.Going.{Going, going_next, going-last, going-stop}
 use Rattle.trials.proofs.iterate.Goals as goal
 
 given : (c : goal.After-span_of-s) → Standing c.args.start

@@ -1,7 +1,6 @@
 -- Sine and cosine, and their bits. Assumes nothing.
 use Rattle.text.proofs.Lays.{and_then}
 use Rattle.views.specs.Views.{direction_pieces}
-use borrow.Author.Rules.{rules}
 use Rattle.views.proofs.direction.Goals as goal
 
 pub returns : goal.returns

@@ -1,7 +1,6 @@
 -- Both k, both points, and their bits. Assumes nothing.
 use Rattle.text.proofs.Lays.{and_then}
 use Rattle.views.specs.Views.{points_pieces}
-use borrow.Author.Rules.{rules}
 use Rattle.views.proofs.points.Goals as goal
 
 pub returns : goal.returns

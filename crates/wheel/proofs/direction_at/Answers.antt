@@ -1,6 +1,5 @@
 -- `wheel::direction_at` meets its contract. Assumes nothing.
-use Rattle.std.proofs.Common.{ℕ, ◌<◌, sym, ap, ◌∙◌, subst, arith, to_z-of_z, w64, rules}
-use Rattle.wheel.specs.Wheel.{signed_sine, over_of}
+use Rattle.std.proofs.Common.{ℕ, ◌<◌, sym, subst, arith}
 use Rattle.wheel.proofs.Quadrants.{on_below}
 use Rattle.wheel.proofs.direction_at.Goals as goal
 

@@ -1,5 +1,5 @@
 -- `wheel::quarter_on` meets its contract. Assumes nothing.
-use Rattle.std.proofs.Common.{sym, rules}
+use Rattle.std.proofs.Common.{sym}
 use Rattle.wheel.proofs.Quadrants.{on-short, on-round}
 use Rattle.wheel.proofs.quarter_on.Goals as goal
 

@@ -1,7 +1,7 @@
 -- `wheel::signed_sine` meets its contract, quadrant by quadrant. Assumes nothing.
-use Rattle.std.proofs.Common.{ℕ, pos, neg_ℤ, sym, ap, ◌∙◌, rules}
+use Rattle.std.proofs.Common.{ℕ, pos, neg_ℤ, sym, ap, ◌∙◌}
 use Rattle.wheel.proofs.Quadrants.{first, second, third, fourth}
-use Rattle.wheel.proofs.Signs.{plain, negative_fits, negative}
+use Rattle.wheel.proofs.Signs.{plain, negative}
 use Rattle.wheel.proofs.signed_sine.Goals as goal
 
 pub returns-then-e-le900 : goal.returns-then-e-le900

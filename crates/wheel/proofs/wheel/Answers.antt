@@ -1,5 +1,5 @@
 -- `wheel::wheel` meets its contract. Assumes nothing.
-use Rattle.std.proofs.Common.{rules, le-ltb, lt-ltb}
+use Rattle.std.proofs.Common.{le-ltb, lt-ltb}
 use Rattle.wheel.specs.Wheel.{wheel_of}
 use Rattle.wheel.proofs.wheel.Goals as goal
 

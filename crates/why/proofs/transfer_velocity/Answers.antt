@@ -1,5 +1,4 @@
 -- `why::transfer_velocity` meets its contract: case by case; the bracket is sound. Assumes nothing.
-use borrow.Author.Rules.{rules}
 use mathlib.Core.Path.{sym, ap, ◌∙◌}
 use Rattle.iterator.proofs.Single.{sound_of_lem, more-is}
 use Rattle.lambert.specs.declared.Transfer.{Transfer}

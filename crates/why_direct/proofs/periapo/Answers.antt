@@ -1,5 +1,4 @@
 -- `why_direct::periapo` meets its contract. Assumes nothing.
-use borrow.Author.Rules.{rules}
 use mathlib.Core.Path.{◌≡◌, sym, ap, ◌∙◌}
 use Rattle.table.specs.Tests.{first_failing}
 use Rattle.apsides.specs.declared.Shape.{Shape}

@@ -1,7 +1,6 @@
 -- `is` goes by the kind of byte.
 use mathlib.Core.Path.{sym, ap, ◌∙◌}
 use mathlib.Core.Bool.{not}
-use borrow.Author.Rules.{rules}
 use Rattle.words.specs.declared.Byte.{Byte}
 use Rattle.words.specs.Words.{is_of}
 use Rattle.words.proofs.is.Goals as goal

@@ -1,7 +1,6 @@
 -- `is_word`: as long, and the same from the start.
 use mathlib.Core.Path.{refl, ◌∙◌}
 use borrow.Author.Tests.{eq-eqb, ne_eqb}
-use borrow.Author.Rules.{rules}
 use Rattle.words.specs.Words.{is_word}
 use Rattle.words.proofs.is_word.Goals as goal
 

@@ -1,9 +1,7 @@
 -- `starts_with`: what is left to compare decides the whole.
-use Prim.Native.Nat.{◌-◌, ◌≤◌}
+use Prim.Native.Nat.{◌-◌}
 use native.Mathlib.Omega.{arith}
-use mathlib.Core.Path.{◌≡◌, refl, sym, ◌∙◌}
-use lib.ListN.{length, drop}
-use Rattle.words.specs.Words.{starts_with}
+use mathlib.Core.Path.{sym, ◌∙◌}
 use Rattle.words.proofs.Searches.{starts-same, starts-differs, starts-short, starts-whole}
 use Rattle.words.proofs.starts_with.Goals as goal
 

@@ -1,10 +1,8 @@
 -- `starts_with`: what is left to compare decides the whole.
 use Prim.Native.Nat.{◌-◌, ◌≤◌}
-use native.Mathlib.Omega.{arith}
-use mathlib.Core.Path.{◌≡◌, refl, sym, ◌∙◌}
+use mathlib.Core.Path.{◌≡◌}
 use lib.ListN.{length, drop}
 use Rattle.words.specs.Words.{starts_with}
-use Rattle.words.proofs.Searches.{starts-same, starts-differs, starts-short, starts-whole}
 use Rattle.words.proofs.starts_with.Given as goal
 
 abbrev pub invariant-loop-i : goal.invariant-loop-i

@@ -1,9 +1,7 @@
 -- `until` finds the first such byte: nothing before place i is one.
 use Prim.Native.Nat.{◌-◌}
-use native.Mathlib.Omega.{arith}
 use mathlib.Core.Path.{sym, ◌∙◌}
-use lib.ListN.{length}
-use Rattle.words.proofs.Searches.{Passed, start, more, here, nowhere}
+use Rattle.words.proofs.Searches.{more, here, nowhere}
 use Rattle.words.proofs.until.Goals as goal
 
 pub returns-then-is : goal.returns-then-is

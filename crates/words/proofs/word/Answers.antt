@@ -2,7 +2,7 @@
 use Prim.Native.Nat.{ℕ, ◌-◌, ◌≤◌}
 use native.Mathlib.Omega.{arith}
 use mathlib.Core.Path.{◌≡◌, ap, ◌∙◌}
-use lib.ListN.{length, drop, drop_of_length-le}
+use lib.ListN.{length, drop_of_length-le}
 use Rattle.words.specs.Words.{from_word}
 use Rattle.words.proofs.Searches.{first_word, next_word, this-word, no_word, rest_of}
 use Rattle.words.proofs.word.Goals as goal

@@ -1,7 +1,6 @@
 -- By the end of the line. Assumes nothing.
 use mathlib.Core.Path.{refl, sym, ◌∙◌}
 use Rattle.entry.specs.Entries.{ended}
-use borrow.Author.Rules.{rules}
 use Rattle.entry.proofs.line.only.Goals as goal
 
 pub returns-then-is_end : goal.returns-then-is_end

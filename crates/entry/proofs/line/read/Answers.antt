@@ -3,7 +3,6 @@ use mathlib.Core.Path.{refl, sym, ap, ◌∙◌}
 use lib.ListN.{length}
 use borrow.Author.Tests.{lt-ltb, le-ltb, eq-eqb, ne_eqb}
 use Rattle.entry.specs.Entries.{entry_of}
-use borrow.Author.Rules.{rules}
 use Rattle.entry.proofs.line.read.Goals as goal
 
 pub returns-then-starts_with : goal.returns-then-starts_with

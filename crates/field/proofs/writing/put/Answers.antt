@@ -1,8 +1,7 @@
 -- It fits, or it does not. Assumes nothing.
 use native.Mathlib.Omega.{arith}
-use Rattle.text.proofs.Puts.{put, kept}
+use Rattle.text.proofs.Puts.{kept}
 use Rattle.field.proofs.Bytes.{bytes-length}
-use borrow.Author.Rules.{rules}
 use Rattle.field.proofs.writing.put.Goals as goal
 
 pub returns-then-w-buf : goal.returns-then-w-buf

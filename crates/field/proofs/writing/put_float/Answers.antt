@@ -1,6 +1,5 @@
 -- The NaN's pattern, or the number's own. Assumes nothing.
 use Rattle.real.proofs.Patterns.{not-nan, nan_pattern}
-use borrow.Author.Rules.{rules}
 use Rattle.field.proofs.writing.put_float.Goals as goal
 
 pub returns-then-x : goal.returns-then-x

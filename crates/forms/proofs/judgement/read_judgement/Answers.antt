@@ -3,7 +3,6 @@ use mathlib.Core.Path.{refl, sym, ap, ◌∙◌}
 use Rattle.words.proofs.Searches.{starts-long, rest_of}
 use Rattle.numerals.specs.Numbers.{word_number}
 use Rattle.forms.specs.Judgements.{as_low, as_high, word_judgement}
-use borrow.Author.Rules.{rules}
 use Rattle.forms.proofs.judgement.read_judgement.Goals as goal
 
 pub returns-then-is_word : goal.returns-then-is_word

@@ -1,11 +1,9 @@
 -- Each turn reads one number more. Assumes nothing.
 use Prim.Native.Nat.{◌-◌}
-use mathlib.Core.Path.{◌≡◌, refl, ap, ◌∙◌}
-use lib.ListN.{length, length-set}
+use mathlib.Core.Path.{refl, ap, ◌∙◌}
+use lib.ListN.{length-set}
 use Rattle.numerals.specs.Numbers.{word_number}
-use Rattle.forms.proofs.Rows.{Got, got-none, got-more, got-bad, got-all}
-use borrow.Author.Rules.{rules}
-use native.Mathlib.Omega.{arith}
+use Rattle.forms.proofs.Rows.{got-none, got-more, got-bad, got-all}
 use Rattle.forms.proofs.parts.numbers.Goals as goal
 
 pub loop-i-init : goal.loop-i-init

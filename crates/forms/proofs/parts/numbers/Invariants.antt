@@ -1,11 +1,8 @@
 -- Each turn reads one number more. Assumes nothing.
 use Prim.Native.Nat.{◌-◌}
-use mathlib.Core.Path.{◌≡◌, refl, ap, ◌∙◌}
-use lib.ListN.{length, length-set}
-use Rattle.numerals.specs.Numbers.{word_number}
-use Rattle.forms.proofs.Rows.{Got, got-none, got-more, got-bad, got-all}
-use borrow.Author.Rules.{rules}
-use native.Mathlib.Omega.{arith}
+use mathlib.Core.Path.{◌≡◌}
+use lib.ListN.{length}
+use Rattle.forms.proofs.Rows.{Got}
 use Rattle.forms.proofs.parts.numbers.Given as goal
 
 abbrev pub invariant-loop-i : goal.invariant-loop-i

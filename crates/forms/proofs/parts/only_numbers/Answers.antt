@@ -1,6 +1,5 @@
 -- By the numbers, and by the word behind them. Assumes nothing.
-use Rattle.forms.proofs.Rows.{only-bad, only-all, only-more}
-use borrow.Author.Rules.{rules}
+use Rattle.forms.proofs.Rows.{only-all, only-more}
 use Rattle.forms.proofs.parts.only_numbers.Goals as goal
 
 pub returns-then-is_end : goal.returns-then-is_end

@@ -1,11 +1,8 @@
 -- The loop has put the first i; the measure is what is left. Assumes nothing.
 use Prim.Native.Nat.{◌-◌, ◌≤◌}
-use mathlib.Core.Path.{◌≡◌, refl}
+use mathlib.Core.Path.{◌≡◌}
 use mathlib.Core.List.{◌++◌}
 use lib.ListN.{length, take, drop}
-use native.Mathlib.Omega.{arith}
-use native.Mathlib.Numerals.{add-one}
-use Rattle.lent.proofs.Fills.{filled, sized, all}
 use Rattle.lent.proofs.putting.copy_numbers.Given as goal
 
 abbrev pub invariant-loop-i : goal.invariant-loop-i

@@ -1,7 +1,6 @@
 -- All or none. Assumes nothing.
 use borrow.Author.Tests.{lt-leb, le-leb}
 use Rattle.lent.specs.Given.{put_in}
-use borrow.Author.Rules.{rules}
 use Rattle.lent.proofs.putting.put_wholes.Goals as goal
 
 pub returns-then-zs-gt16 : goal.returns-then-zs-gt16

@@ -1,7 +1,6 @@
 -- Short or not, and then the apsides. Assumes nothing.
 use borrow.Author.Tests.{lt-leb, le-leb}
 use Rattle.lent.proofs.Gives.{short, enough}
-use borrow.Author.Rules.{rules}
 use Rattle.library.proofs.conic.cabin_apsides.Goals as goal
 
 pub returns-then-state-lt6 : goal.returns-then-state-lt6

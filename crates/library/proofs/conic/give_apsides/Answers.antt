@@ -2,7 +2,6 @@
 use native.Mathlib.Omega.{arith}
 use Rattle.library.specs.Answers.{apsides_told}
 use Rattle.lent.proofs.Gives.{put, left}
-use borrow.Author.Rules.{rules}
 use Rattle.library.proofs.conic.give_apsides.Goals as goal
 
 pub returns-in-Closed : goal.returns-in-Closed

@@ -2,7 +2,6 @@
 use native.Mathlib.Omega.{arith}
 use Rattle.library.specs.Answers.{transfer_time_told}
 use Rattle.lent.proofs.Gives.{put-numbers, left-numbers}
-use borrow.Author.Rules.{rules}
 use Rattle.library.proofs.conic.give_time.Goals as goal
 
 pub returns-in-Time : goal.returns-in-Time

@@ -1,7 +1,6 @@
 -- Short or not, and then the points. Assumes nothing.
 use borrow.Author.Tests.{lt-leb, le-leb}
 use Rattle.lent.proofs.Gives.{short-numbers, enough-numbers}
-use borrow.Author.Rules.{rules}
 use Rattle.library.proofs.looks.cabin_sight.Goals as goal
 
 pub returns-then-active-lt3 : goal.returns-then-active-lt3

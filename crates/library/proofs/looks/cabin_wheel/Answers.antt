@@ -1,7 +1,6 @@
 -- Short or not, and then the direction. Assumes nothing.
 use borrow.Author.Tests.{lt-leb, le-leb}
 use Rattle.lent.proofs.Gives.{short-numbers, enough-numbers}
-use borrow.Author.Rules.{rules}
 use Rattle.library.proofs.looks.cabin_wheel.Goals as goal
 
 pub returns-then-out-lt2 : goal.returns-then-out-lt2

@@ -2,7 +2,6 @@
 use native.Mathlib.Omega.{arith}
 use Rattle.library.specs.Answers.{wheel_told}
 use Rattle.lent.proofs.Gives.{put-numbers, left-numbers}
-use borrow.Author.Rules.{rules}
 use Rattle.library.proofs.looks.give_wheel.Goals as goal
 
 pub returns-in-Angle : goal.returns-in-Angle

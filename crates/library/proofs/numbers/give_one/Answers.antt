@@ -3,7 +3,6 @@ use native.Mathlib.Omega.{arith}
 use borrow.Author.Tests.{lt-leb, le-leb}
 use Rattle.library.specs.Answers.{one_told}
 use Rattle.lent.proofs.Gives.{put-numbers, left-numbers, short-numbers, enough-numbers}
-use borrow.Author.Rules.{rules}
 use Rattle.library.proofs.numbers.give_one.Goals as goal
 
 pub returns-then-out-lt1 : goal.returns-then-out-lt1

@@ -8,7 +8,6 @@ use mir.Facts.{to_z-of_z, to_z_pos}
 use Rattle.lines.specs.Days.{local_of, day_of, cs_of}
 use Rattle.lines.proofs.DayLaws.{cs-below}
 use Rattle.lines.proofs.Locals.{shift, day-fits, minutes-fit, shifted-small, local-small}
-use borrow.Author.Rules.{rules}
 use Rattle.lines.proofs.day.day_of.Goals as goal
 
 pub overflow_add-result : goal.overflow_add-result

@@ -9,7 +9,6 @@ use Rattle.text.proofs.Lays.{one}
 use Rattle.lines.specs.Days.{local_of, day_of, cs_of}
 use Rattle.lines.proofs.Locals.{day-fits, local-small}
 use Rattle.lines.specs.Lines.{clock_pieces}
-use borrow.Author.Rules.{rules}
 use Rattle.lines.proofs.line.clock.Goals as goal
 
 pub returns : goal.returns

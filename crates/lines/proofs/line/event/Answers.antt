@@ -2,7 +2,6 @@
 use mir.Syntax.{w16, w64}
 use mir.Facts.{to_z-of_z}
 use Rattle.text.proofs.Lays.{one, and_then}
-use borrow.Author.Rules.{rules}
 use Rattle.lines.proofs.line.event.Goals as goal
 
 pub returns : goal.returns

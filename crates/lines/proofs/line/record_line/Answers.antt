@@ -4,12 +4,11 @@ use mir.Val.{SFits}
 use mir.Facts.{to_z-of_z}
 use Rattle.session.specs.declared.record.Kind.TheVariants.{State, Burn, Mark}
 use Rattle.lines.specs.Days.{local_of}
-use Rattle.lines.specs.Lines.{line_room, record_text}
+use Rattle.lines.specs.Lines.{line_room}
 use Rattle.lines.proofs.Locals.{local-small}
 use Rattle.text.proofs.Lays.{all_fit}
 use Rattle.lines.proofs.Sizes.{event-fits}
-use Rattle.text.proofs.Fronts.{too_short, in_front_lem}
-use borrow.Author.Rules.{rules}
+use Rattle.text.proofs.Fronts.{in_front_lem}
 use Rattle.lines.proofs.line.record_line.Goals as goal
 
 pub returns-in-State : goal.returns-in-State

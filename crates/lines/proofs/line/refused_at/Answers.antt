@@ -2,7 +2,6 @@
 use Rattle.text.specs.Pieces.{then}
 use Rattle.text.proofs.Lays.{one}
 use Rattle.lines.specs.Lines.{refused_pieces}
-use borrow.Author.Rules.{rules}
 use Rattle.lines.proofs.line.refused_at.Goals as goal
 
 pub returns : goal.returns

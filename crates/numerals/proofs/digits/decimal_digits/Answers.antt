@@ -1,5 +1,5 @@
 -- `decimal_digits`: one digit or more.
-use Rattle.std.proofs.Common.{refl, ◌∙◌, rules, eq-eqb, ne_eqb}
+use Rattle.std.proofs.Common.{refl, ◌∙◌, eq-eqb, ne_eqb}
 use Rattle.numerals.specs.Numbers.{word_decimal}
 use Rattle.numerals.proofs.digits.decimal_digits.Goals as goal
 

@@ -1,5 +1,5 @@
 -- `digit_value`: three ranges of bytes, and 16 outside them.
-use Rattle.std.proofs.Common.{refl, inl, inr, arith, rules}
+use Rattle.std.proofs.Common.{refl, inl, inr, arith}
 use Rattle.numerals.specs.Numbers.{digit_of}
 use Rattle.numerals.proofs.Signs.{outside, inside}
 use Rattle.numerals.proofs.digits.digit_value.Goals as goal

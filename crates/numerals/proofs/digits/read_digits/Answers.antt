@@ -1,6 +1,6 @@
 -- `read_digits`: n is the number of the bytes read; the test ahead of a digit tells a number that a u64 does not hold.
-use Rattle.std.proofs.Common.{◌-◌, ◌≤◌, length, arith}
-use Rattle.numerals.proofs.Values.{Reading, none_read, bad-digit, too_large, more-digits, all_read, over, fits}
+use Rattle.std.proofs.Common.{◌-◌, arith}
+use Rattle.numerals.proofs.Values.{bad-digit, too_large, more-digits, all_read, over, fits}
 use Rattle.numerals.proofs.digits.read_digits.Goals as goal
 
 pub returns-then-d-base : goal.returns-then-d-base

@@ -1,5 +1,5 @@
 -- `read_signed`: by the first byte.
-use Rattle.std.proofs.Common.{refl, ap, ◌∙◌, rules, eq-eqb, ne_eqb}
+use Rattle.std.proofs.Common.{refl, ap, ◌∙◌, eq-eqb, ne_eqb}
 use Rattle.words.proofs.Searches.{rest_of, nil}
 use Rattle.numerals.specs.Numbers.{word_decimal, plain, minus, word_signed}
 use Rattle.numerals.proofs.digits.read_signed.Goals as goal

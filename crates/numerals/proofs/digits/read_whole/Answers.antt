@@ -1,5 +1,5 @@
 -- `read_whole`: by the first byte.
-use Rattle.std.proofs.Common.{refl, ap, ◌∙◌, rules, eq-eqb, ne_eqb}
+use Rattle.std.proofs.Common.{refl, ap, ◌∙◌, eq-eqb, ne_eqb}
 use Rattle.words.proofs.Searches.{rest_of, nil}
 use Rattle.numerals.specs.Numbers.{word_decimal, only_zero, word_whole}
 use Rattle.numerals.proofs.digits.read_whole.Goals as goal

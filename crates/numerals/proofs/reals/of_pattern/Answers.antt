@@ -1,5 +1,5 @@
 -- `of_pattern`: a NaN's pattern is told by its size without the sign.
-use Rattle.std.proofs.Common.{sym, ap, ◌∙◌, rules}
+use Rattle.std.proofs.Common.{sym, ap, ◌∙◌}
 use Rattle.numerals.specs.Numbers.{of_pattern}
 use Rattle.real.proofs.Patterns.{nan-bits, no-nan-bits}
 use Rattle.numerals.specs.declared.reals.Number.TheVariants as N

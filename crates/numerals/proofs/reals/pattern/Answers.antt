@@ -1,5 +1,5 @@
 -- `pattern`: 16 digits, no more and no fewer.
-use Rattle.std.proofs.Common.{refl, ap, ◌∙◌, rules, eq-eqb, ne_eqb}
+use Rattle.std.proofs.Common.{refl, ap, ◌∙◌, eq-eqb, ne_eqb}
 use Rattle.numerals.specs.Numbers.{pattern_of, of_pattern}
 use Rattle.numerals.proofs.reals.pattern.Goals as goal
 

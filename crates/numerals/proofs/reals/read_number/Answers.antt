@@ -1,5 +1,5 @@
 -- `read_number`: by the first byte.
-use Rattle.std.proofs.Common.{refl, ap, ◌∙◌, rules, eq-eqb, ne_eqb}
+use Rattle.std.proofs.Common.{refl, ap, ◌∙◌, eq-eqb, ne_eqb}
 use Rattle.words.specs.Words.{up_to, from}
 use Rattle.numerals.specs.Numbers.{pattern_of, well_formed, unsigned_of, negated, word_number}
 use Rattle.words.proofs.Searches.{rest_of, nil}

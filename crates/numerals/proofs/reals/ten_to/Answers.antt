@@ -1,5 +1,5 @@
 -- `ten_to`: after i turns p is 10 ^ i.
-use Rattle.std.proofs.Common.{◌≡◌, ℕ, ◌-◌, ◌*◌, ◌^◌, ◌≤◌, refl, ap, ◌∙◌, pow-suc, add-one, arith, lit<}
+use Rattle.std.proofs.Common.{◌-◌, ◌^◌, ◌≤◌, arith, lit<}
 use native.Mathlib.Nat.{pow-le-pow_right}
 use Rattle.numerals.proofs.reals.ten_to.Goals as goal
 

@@ -1,6 +1,5 @@
 -- `ten_to`: after i turns p is 10 ^ i.
-use Rattle.std.proofs.Common.{◌≡◌, ℕ, ◌-◌, ◌*◌, ◌^◌, ◌≤◌, refl, ap, ◌∙◌, pow-suc, add-one, arith, lit<}
-use native.Mathlib.Nat.{pow-le-pow_right}
+use Rattle.std.proofs.Common.{◌≡◌, ◌-◌, ◌^◌, ◌≤◌}
 use Rattle.numerals.proofs.reals.ten_to.Given as goal
 
 abbrev pub invariant-loop-i : goal.invariant-loop-i

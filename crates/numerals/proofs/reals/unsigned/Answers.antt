@@ -1,5 +1,5 @@
 -- `unsigned`: by the place of the point; the digits behind it go on from the number before it.
-use Rattle.std.proofs.Common.{◌≡◌, ℕ, ◌+◌, ◌-◌, length, sym, ap, ◌∙◌, arith, length-take-le, rules}
+use Rattle.std.proofs.Common.{◌≡◌, ℕ, ◌+◌, ◌-◌, length, sym, ap, ◌∙◌, arith}
 use Rattle.numerals.proofs.Decimals.{room, some, none_before, none-behind, too_many, no-point, both-sides, bad-front}
 use Rattle.numerals.specs.Numbers.{word_digits, over_ten}
 use Rattle.words.proofs.Searches.{rest_of}

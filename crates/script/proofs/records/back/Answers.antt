@@ -1,7 +1,6 @@
 -- The row, and the newline. Assumes nothing.
 use Rattle.text.proofs.Lays.{one, and_then}
 use Rattle.script.specs.Script.{back_pieces}
-use borrow.Author.Rules.{rules}
 use Rattle.script.proofs.records.back.Goals as goal
 
 pub returns : goal.returns

@@ -4,7 +4,6 @@ use mir.Facts.{to_z-of_z}
 use Rattle.text.specs.Pieces.{then}
 use Rattle.text.proofs.Lays.{and_then}
 use Rattle.script.specs.Script.{front_pieces}
-use borrow.Author.Rules.{rules}
 use Rattle.script.proofs.records.front.Goals as goal
 
 pub returns : goal.returns

@@ -4,7 +4,6 @@ use mir.Facts.{to_z-of_z}
 use Rattle.text.specs.Pieces.{then}
 use Rattle.text.proofs.Lays.{one}
 use Rattle.script.specs.Script.{head_pieces}
-use borrow.Author.Rules.{rules}
 use Rattle.script.proofs.records.head.Goals as goal
 
 pub returns : goal.returns

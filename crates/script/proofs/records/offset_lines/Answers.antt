@@ -5,7 +5,6 @@ use mir.Facts.{to_z-of_z}
 use Rattle.text.specs.Pieces.{then}
 use Rattle.text.proofs.Lays.{one}
 use Rattle.script.specs.Script.{offset_pieces}
-use borrow.Author.Rules.{rules}
 use Rattle.script.proofs.records.offset_lines.Goals as goal
 
 pub returns : goal.returns

@@ -6,7 +6,6 @@ use Rattle.text.specs.Pieces.{then}
 use Rattle.text.proofs.Lays.{one}
 use Rattle.lines.specs.Days.{local_of, day_of, cs_of}
 use Rattle.script.specs.Script.{day_pieces}
-use borrow.Author.Rules.{rules}
 use Rattle.script.proofs.records.put_day.Goals as goal
 
 pub returns : goal.returns

@@ -2,7 +2,6 @@
 use mir.Syntax.{w16, w64}
 use mir.Facts.{to_z-of_z}
 use Rattle.text.proofs.Lays.{and_then}
-use borrow.Author.Rules.{rules}
 use Rattle.script.proofs.records.record_lines.Goals as goal
 
 pub returns-in-State : goal.returns-in-State

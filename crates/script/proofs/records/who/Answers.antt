@@ -2,7 +2,6 @@
 use Rattle.text.specs.Pieces.{then}
 use Rattle.text.proofs.Lays.{one}
 use Rattle.script.specs.Script.{who_pieces}
-use borrow.Author.Rules.{rules}
 use Rattle.script.proofs.records.who.Goals as goal
 
 pub returns : goal.returns

@@ -1,15 +1,8 @@
 -- The loop has found the first i numbers finite, so that all are where those behind them are. Assumes nothing.
-use Prim.Native.Nat.{◌+◌, ◌*◌, ◌-◌, ◌≤◌, zero-le}
-use native.Mathlib.Nat.{sub-zero}
-use native.Mathlib.Omega.{arith}
-use mathlib.Core.Path.{◌≡◌, refl, sym, ap, ◌∙◌}
-use mathlib.Core.Bool.{Bool, ◌&&◌}
-use borrow.Author.Tests.{not-true, not-false}
-use borrow.Author.Rules.{rules}
+use Prim.Native.Nat.{◌+◌, ◌*◌, ◌-◌, ◌≤◌}
+use mathlib.Core.Path.{◌≡◌}
 use lib.ListN.{length}
-use Rattle.real.specs.F64.{finite}
 use Rattle.session.specs.Layout.{numbers_from, all_finite}
-use Rattle.session.proofs.Numbers.{finite-first}
 use Rattle.session.proofs.payload.are_finite.Given as goal
 
 abbrev pub invariant-loop-i : goal.invariant-loop-i

@@ -4,7 +4,6 @@ use borrow.Author.Tests.{lt-ltb, le-ltb}
 use Rattle.table.specs.declared.Test.TheVariants.{Passed, Failed}
 use Rattle.table.specs.Tests.{first_failing}
 use Rattle.settings.specs.Allowed.{setting_tests, refusal_by}
-use borrow.Author.Rules.{rules}
 use Rattle.settings.proofs.allowed.refusal_of.Goals as goal
 
 pub returns-then-x-gt1 : goal.returns-then-x-gt1

@@ -1,7 +1,6 @@
 -- The tests made one after another are the first of the list that fails. Assumes nothing.
 use Rattle.table.proofs.Laws.{first_failing_lem}
 use Rattle.settings.specs.Allowed.{setting_tests}
-use borrow.Author.Rules.{rules}
 use Rattle.settings.proofs.allowed.tests.Goals as goal
 
 pub returns : goal.returns

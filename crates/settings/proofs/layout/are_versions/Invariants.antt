@@ -1,15 +1,8 @@
 -- The loop has found the first i versions allowed, so that all are where those behind them are. Assumes nothing.
-use Prim.Native.Nat.{◌+◌, ◌-◌, ◌*◌, ◌≤◌, zero-le}
-use native.Mathlib.Nat.{sub-zero}
-use native.Mathlib.Omega.{arith}
-use mathlib.Core.Path.{◌≡◌, refl, sym, ap, ◌∙◌}
-use mathlib.Core.Bool.{Bool, ◌&&◌}
+use Prim.Native.Nat.{◌+◌, ◌-◌, ◌*◌, ◌≤◌}
+use mathlib.Core.Path.{◌≡◌}
 use lib.ListN.{length, drop}
-use borrow.Author.Tests.{not-true, not-false}
-use borrow.Author.Rules.{rules}
-use Rattle.field.proofs.Fields.{rest}
-use Rattle.settings.specs.Layout.{is_version, versions_from}
-use Rattle.settings.proofs.Versions.{versions-first}
+use Rattle.settings.specs.Layout.{versions_from}
 use Rattle.settings.proofs.layout.are_versions.Given as goal
 
 abbrev pub invariant-loop-i : goal.invariant-loop-i

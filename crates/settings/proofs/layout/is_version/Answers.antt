@@ -2,10 +2,9 @@
 use Prim.Native.Nat.{ℕ}
 use mathlib.Core.Path.{◌≡◌, sym, ap, ◌∙◌}
 use lib.Dec.{eqb}
-use borrow.Author.Tests.{eq-eqb, ne_eqb}
+use borrow.Author.Tests.{eq-eqb}
 use Rattle.field.specs.Bytes.{field}
 use Rattle.settings.specs.Allowed.{refusal_of}
-use borrow.Author.Rules.{rules}
 use Rattle.settings.proofs.layout.is_version.Goals as goal
 
 pub returns : goal.returns

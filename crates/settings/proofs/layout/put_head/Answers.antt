@@ -1,7 +1,6 @@
 -- The fields one behind the other. Assumes nothing.
 use Rattle.text.specs.Pieces.{then}
 use Rattle.text.proofs.Lays.{one}
-use borrow.Author.Rules.{rules}
 use Rattle.settings.proofs.layout.put_head.Goals as goal
 
 pub returns : goal.returns

@@ -1,7 +1,6 @@
 -- The numbers one behind the other. Assumes nothing.
 use Rattle.text.specs.Pieces.{then}
 use Rattle.text.proofs.Lays.{one}
-use borrow.Author.Rules.{rules}
 use Rattle.settings.proofs.layout.put_numbers.Goals as goal
 
 pub returns : goal.returns

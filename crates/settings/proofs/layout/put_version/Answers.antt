@@ -1,6 +1,5 @@
 -- The numbers stand behind the header. Assumes nothing.
 use Rattle.text.proofs.Lays.{and_then}
-use borrow.Author.Rules.{rules}
 use Rattle.settings.proofs.layout.put_version.Goals as goal
 
 pub returns : goal.returns

@@ -6,7 +6,6 @@ use borrow.Author.Tests.{not-true, not-false}
 use Rattle.real.specs.F64.{finite}
 use Rattle.session.specs.Layout.{all_finite}
 use Rattle.writer.proofs.Laws.{all_append}
-use borrow.Author.Rules.{rules}
 use mathlib.Core.Bool.{not}
 use Rattle.writer.proofs.numbers.are_finite.Goals as goal
 

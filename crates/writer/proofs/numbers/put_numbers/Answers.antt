@@ -9,7 +9,6 @@ use Rattle.field.proofs.Bytes.{bytes-length}
 use Rattle.session.proofs.ReadBack.{numbers-length}
 use Rattle.text.proofs.Stand.{then, same_size}
 use Rattle.writer.proofs.Laws.{eight, two-numbers, more_numbers}
-use borrow.Author.Rules.{rules}
 use Rattle.writer.proofs.numbers.put_numbers.Goals as goal
 
 pub put_three-requires : goal.put_three-requires

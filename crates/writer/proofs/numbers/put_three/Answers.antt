@@ -4,7 +4,6 @@ use lib.Ieee.{to_bits, binary64}
 use Rattle.field.proofs.Bytes.{bytes-length}
 use Rattle.text.proofs.Stand.{then, same_size}
 use Rattle.writer.proofs.Laws.{three-numbers}
-use borrow.Author.Rules.{rules}
 use Rattle.writer.proofs.numbers.put_three.Goals as goal
 
 pub put_number-b-requires : goal.put_number-b-requires

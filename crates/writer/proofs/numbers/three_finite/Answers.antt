@@ -4,7 +4,6 @@ use mathlib.Core.Bool.{Bool, true, false, ◌&&◌, and-true}
 use borrow.Author.Tests.{not-true, not-false}
 use Rattle.real.specs.F64.{finite}
 use Rattle.session.specs.Layout.{all_finite}
-use borrow.Author.Rules.{rules}
 use mathlib.Core.Bool.{not}
 use Rattle.writer.proofs.numbers.three_finite.Goals as goal
 

@@ -10,7 +10,6 @@ use Rattle.session.specs.Offset.{offset_bytes}
 use Rattle.field.proofs.Bytes.{bytes-length}
 use Rattle.text.proofs.Stand.{then, earlier, same_size}
 use Rattle.writer.proofs.Laws.{offset-rest}
-use borrow.Author.Rules.{rules}
 use Rattle.writer.proofs.offset.put_offset.Goals as goal
 
 pub put_field-b-requires : goal.put_field-b-requires

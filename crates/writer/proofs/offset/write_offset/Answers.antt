@@ -5,10 +5,10 @@ use mathlib.Core.Path.{◌≡◌, sym, ap, ◌∙◌}
 use mathlib.Core.Bool.{true, false}
 use mathlib.Core.List.{◌++◌}
 use lib.ListN.{length, take, drop}
-use lib.Dec.{leb, eqb}
+use lib.Dec.{eqb}
 use mir.Syntax.{w16}
 use mir.Facts.{to_z-of_z}
-use borrow.Author.Tests.{not-true, not-false, leb-true, eqb-true}
+use borrow.Author.Tests.{not-false, eqb-true}
 use Rattle.facts.proofs.Truth.{each}
 use Rattle.session.specs.Limits.{offset_allowed}
 use Rattle.session.specs.Offset.{offset_bytes}
@@ -16,8 +16,7 @@ use Rattle.text.specs.Text.{Stands}
 use Rattle.writer.specs.declared.record.Written.TheVariants.{Next}
 use Rattle.writer.specs.Write.{has_room, offset_may}
 use Rattle.writer.proofs.Laws.{offset-length}
-use Rattle.writer.proofs.Cases.{not-allowed, no_room, stood}
-use borrow.Author.Rules.{rules}
+use Rattle.writer.proofs.Cases.{stood}
 use mathlib.Core.Bool.{not}
 use Rattle.writer.proofs.offset.write_offset.Goals as goal
 

@@ -1,9 +1,7 @@
 -- What fits is put. Assumes nothing.
 use native.Mathlib.Omega.{arith}
 use lib.Ieee.{to_bits, binary64}
-use Rattle.text.proofs.Puts.{put-size}
 use Rattle.field.proofs.Bytes.{bytes-length}
-use borrow.Author.Rules.{rules}
 use Rattle.writer.proofs.put.put_number.Goals as goal
 
 pub returns : goal.returns

@@ -12,7 +12,6 @@ use Rattle.session.proofs.Table.{length-law}
 use Rattle.session.proofs.ReadBack.{numbers-length, count-own}
 use Rattle.text.proofs.Stand.{then, lent, earlier, same_size}
 use Rattle.writer.proofs.Laws.{rest-length, record-bytes}
-use borrow.Author.Rules.{rules}
 use Rattle.writer.proofs.record.put_record.Goals as goal
 
 pub put_numbers-requires : goal.put_numbers-requires

@@ -2,7 +2,6 @@
 use native.Mathlib.Omega.{arith}
 use Rattle.field.proofs.Bytes.{bytes-length}
 use Rattle.text.proofs.Stand.{then, same_size}
-use borrow.Author.Rules.{rules}
 use Rattle.writer.proofs.record.put_rest.Goals as goal
 
 pub put_field-b-requires : goal.put_field-b-requires

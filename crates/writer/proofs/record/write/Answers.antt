@@ -4,17 +4,14 @@ use mathlib.Core.Path.{◌≡◌, sym, ap, ◌∙◌}
 use mathlib.Core.Bool.{true, false}
 use mathlib.Core.List.{◌++◌}
 use lib.ListN.{length, take, drop}
-use lib.Dec.{leb}
-use borrow.Author.Tests.{not-true, not-false, leb-true}
-use Rattle.facts.proofs.Truth.{and_0}
+use borrow.Author.Tests.{not-false}
 use Rattle.session.specs.Kinds.{record_length}
 use Rattle.session.specs.Layout.{kind_in, bytes_of}
 use Rattle.session.specs.Decode.{allowed_in}
 use Rattle.session.proofs.ReadBack.{bytes-of-length}
 use Rattle.writer.specs.declared.record.Written.TheVariants.{Next}
 use Rattle.writer.specs.Write.{has_room, place_behind}
-use Rattle.writer.proofs.Cases.{not-allowed, no_room, stood}
-use borrow.Author.Rules.{rules}
+use Rattle.writer.proofs.Cases.{stood}
 use mathlib.Core.Bool.{not}
 use Rattle.writer.proofs.record.write.Goals as goal
 
