@@ -59,10 +59,8 @@ pub fn state(sum: u64, s: State) -> u64 {
 // Each byte of a text.
 pub fn bytes(sum: u64, s: &[u8]) -> u64 {
     let mut h = sum;
-    let mut i = 0;
-    while i < s.len() {
-        h = word(h, s[i] as u64);
-        i += 1;
+    for b in s {
+        h = word(h, u64::from(*b));
     }
     h
 }

@@ -13,13 +13,13 @@ pub fn wrapping_mul(a: u64, b: u64) -> u64 {
     let a1 = (a / 4294967296) as u32;
     let b0 = (b % 4294967296) as u32;
     let b1 = (b / 4294967296) as u32;
-    let crossed = std::num::wrapping_add_u64(product(a1, b0), product(a0, b1));
-    std::num::wrapping_add_u64(product(a0, b0), crossed << 32)
+    let crossed = product(a1, b0).wrapping_add(product(a0, b1));
+    product(a0, b0).wrapping_add(crossed << 32)
 }
 
 // The next word of the series.
 pub fn next(from: &mut u64) -> u64 {
-    let u = std::num::wrapping_add_u64(*from, 0x9E3779B97F4A7C15);
+    let u = from.wrapping_add(0x9E3779B97F4A7C15);
     *from = u;
     let y = wrapping_mul(u ^ (u >> 30), 0xBF58476D1CE4E5B9);
     let z = wrapping_mul(y ^ (y >> 27), 0x94D049BB133111EB);

@@ -9,8 +9,8 @@ mod runs;
 
 ghost use Rattle.std.specs.Prelude.{◌<◌, ◌≤◌, length};
 
-use libc::{STDERR_FILENO, STDOUT_FILENO};
 use runs::{Bench, run, usual};
+use std::env::Env;
 
 #[derive(Clone, Copy)]
 enum Named {
@@ -19,57 +19,42 @@ enum Named {
 }
 
 // 16 digits and a newline.
-fn print(sum: u64) {
+fn print(rt: &(impl Print + Eprint), sum: u64) {
     let mut line = [b'\n'; 17];
-    let mut at = 16usize;
     let mut rest = sum;
-    while 0 < at {
-        at -= 1;
+    for at in (0..16).rev() {
         line[at] = text::digit(rest);
         rest /= 16;
     }
-    io::write_all(STDOUT_FILENO, &line);
+    console::print(rt, &line);
 }
 
 fn bench_of(name: &[u8]) -> Named {
-    if check::same(name, b"root") {
-        return Named::Bench(Bench::Root);
+    match name {
+        b"root" => Named::Bench(Bench::Root),
+        b"advance" => Named::Bench(Bench::Advance),
+        b"lambert" => Named::Bench(Bench::Lambert),
+        b"theta" => Named::Bench(Bench::Theta),
+        b"list" => Named::Bench(Bench::List),
+        _ => Named::Unknown,
     }
-    if check::same(name, b"advance") {
-        return Named::Bench(Bench::Advance);
-    }
-    if check::same(name, b"lambert") {
-        return Named::Bench(Bench::Lambert);
-    }
-    if check::same(name, b"theta") {
-        return Named::Bench(Bench::Theta);
-    }
-    if check::same(name, b"list") {
-        return Named::Bench(Bench::List);
-    }
-    Named::Unknown
 }
 
 // How much of a name stands ahead of `-inputs`; all of it where that is not there.
 fn ahead(name: &[u8]) -> usize
     ensures { result ≤ length name.now }
 {
-    let n = name.len();
-    if n < 7 {
-        return n;
+    match name.strip_suffix(b"-inputs") {
+        Some(rest) => rest.len(),
+        None => name.len(),
     }
-    if check::same(&name[n - 7..], b"-inputs") {
-        return n - 7;
-    }
-    n
 }
 
 // A decimal; 0 for what is none, or has over 18 digits.
 fn decimal(s: &[u8]) -> u64 {
     let mut n: u64 = 0;
-    let mut i = 0;
-    while i < s.len() {
-        let b = s[i];
+    for b in s {
+        let b = *b;
         if b < b'0' {
             return 0;
         }
@@ -79,53 +64,57 @@ fn decimal(s: &[u8]) -> u64 {
         if n >= 100000000000000000 {
             return 0;
         }
-        n = n * 10 + (b - b'0') as u64;
-        i += 1;
+        n = n * 10 + u64::from(b - b'0');
     }
     n
 }
 
 // The count that the second argument gives; the usual one for none, or 0.
-fn count_for(bench: Bench) -> u64 {
-    let mut word = io::buffer();
-    let n = os::arg(2, &mut word);
-    let count = decimal(&word[..n]);
+fn count_for(rt: &impl Env, bench: Bench) -> u64 {
+    let mut word = [0u8; console::WORD];
+    let count = match console::arg(rt, 2, &mut word) {
+        Ok(n) => decimal(&word[..n]),
+        Err(_) => 0,
+    };
     if count == 0 {
         return usual(bench);
     }
     count
 }
 
-fn some(name: &[u8], bench: Bench, count: u64) {
-    io::write_all(STDOUT_FILENO, name);
-    io::write_all(STDOUT_FILENO, b" ");
-    print(run(bench, false, count));
-    io::write_all(STDOUT_FILENO, name);
-    io::write_all(STDOUT_FILENO, b"-inputs ");
-    print(run(bench, true, count));
+fn some(rt: &(impl Print + Eprint), name: &[u8], bench: Bench, count: u64) {
+    console::print(rt, name);
+    console::print(rt, b" ");
+    print(rt, run(bench, false, count));
+    console::print(rt, name);
+    console::print(rt, b"-inputs ");
+    print(rt, run(bench, true, count));
 }
 
-fn all() {
-    some(b"root", Bench::Root, 1000);
-    some(b"advance", Bench::Advance, 200);
-    some(b"lambert", Bench::Lambert, 100);
-    some(b"theta", Bench::Theta, 500);
-    some(b"list", Bench::List, 3);
+fn all(rt: &(impl Print + Eprint)) {
+    some(rt, b"root", Bench::Root, 1000);
+    some(rt, b"advance", Bench::Advance, 200);
+    some(rt, b"lambert", Bench::Lambert, 100);
+    some(rt, b"theta", Bench::Theta, 500);
+    some(rt, b"list", Bench::List, 3);
 }
 
-fn main() {
-    if os::arg_count() < 2 {
-        all();
+fn main(rt: HostRuntime) {
+    if console::arg_count(&rt) < 2 {
+        all(&rt);
         return;
     }
-    let mut word = io::buffer();
-    let n = os::arg(1, &mut word);
+    let mut word = [0u8; console::WORD];
+    let n = match console::arg(&rt, 1, &mut word) {
+        Ok(n) => n,
+        Err(_) => 0,
+    };
     let m = ahead(&word[..n]);
     match bench_of(&word[..m]) {
-        Named::Bench(bench) => print(run(bench, m < n, count_for(bench))),
+        Named::Bench(bench) => print(&rt, run(bench, m < n, count_for(&rt, bench))),
         Named::Unknown => {
-            io::write_all(
-                STDERR_FILENO,
+            console::say(
+                &rt,
                 b"bench: root, advance, lambert, theta or list, with -inputs behind it or not, and a count\n",
             );
         }

@@ -6,22 +6,18 @@ use crate::inputs::{between, next};
 fn put(buf: &mut [u8], at: usize, n: usize, v: u64) -> usize {
     let mut place = at;
     let mut rest = v;
-    let mut left = n;
-    while 0 < left {
+    for _ in 0..n {
         place = text::byte(buf, place, (rest % 256) as u8);
         rest /= 256;
-        left -= 1;
     }
     place
 }
 
 fn put_numbers(from: &mut u64, buf: &mut [u8], at: usize, n: usize) -> usize {
     let mut place = at;
-    let mut left = n;
-    while 0 < left {
+    for _ in 0..n {
         let x = between(from, -8388608.0, 8388608.0);
         place = put(buf, place, 8, bits(x));
-        left -= 1;
     }
     place
 }
@@ -50,7 +46,7 @@ fn put_record(from: &mut u64, buf: &mut [u8], at: usize, u: u64) -> usize {
     let c = put(buf, b, 1, (u >> 8) % 2);
     let body = if kind == 1 { (u >> 9) % 2 } else { 0 };
     let d = put(buf, c, 1, body);
-    let time = std::num::wrapping_sub_u64(next(from) % 17280000000, 8640000000);
+    let time = (next(from) % 17280000000).wrapping_sub(8640000000);
     let e = put(buf, d, 8, time);
     put_numbers(from, buf, e, numbers_of(kind))
 }
@@ -58,15 +54,13 @@ fn put_record(from: &mut u64, buf: &mut [u8], at: usize, u: u64) -> usize {
 // Records, one behind the other, until the next would end past byte 65,536; the answer is the session's size.
 // A record has 30 bytes at least, so that the 2,185th never fits.
 pub fn make(from: &mut u64, buf: &mut [u8]) -> usize {
-    let mut size = 0;
-    let mut left: u64 = 2185;
-    while 0 < left {
+    let mut size: usize = 0;
+    for _ in 0..2185 {
         let u = next(from);
-        if std::num::wrapping_add_usize(size, length_of(1 + u % 3)) > 65536 {
+        if size.wrapping_add(length_of(1 + u % 3)) > 65536 {
             return size;
         }
         size = put_record(from, buf, size, u);
-        left -= 1;
     }
     size
 }

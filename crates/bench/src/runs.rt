@@ -1,6 +1,6 @@
 // The five series: each solve's input from the series, its answer into the checksum. A bare run folds the inputs and
 // solves nothing: what it takes is the series' own time.
-ghost use Rattle.io.specs.Counts.{IsPrefixLen};
+ghost use Rattle.console.specs.Counts.{IsPrefixLen};
 
 use crate::{fold, inputs, records};
 use lambert::Way;
@@ -111,14 +111,12 @@ fn within(n: usize, s: &[u8]) -> usize
 fn listings(s: &[u8], out: &mut [u8], count: u64) -> u64 {
     let mut sum = fold::EMPTY;
     let mut length = 0;
-    let mut k = 0;
-    while k < count {
+    for _ in 0..count {
         let Filling::Lines(f) = report::fill(s, Next::Heading, out) else {
             return sum;
         };
         length = f.length;
         sum = fold::word(sum, length as u64);
-        k += 1;
     }
     let n = within(length, out);
     fold::bytes(sum, &out[..n])
@@ -127,17 +125,15 @@ fn listings(s: &[u8], out: &mut [u8], count: u64) -> u64 {
 // The session's length as often, and its own bytes.
 fn bare_listings(s: &[u8], count: u64) -> u64 {
     let mut sum = fold::EMPTY;
-    let mut k = 0;
-    while k < count {
+    for _ in 0..count {
         sum = fold::word(sum, s.len() as u64);
-        k += 1;
     }
     fold::bytes(sum, s)
 }
 
 fn list(bare: bool, count: u64) -> u64 {
     let mut from = inputs::SEED;
-    let mut buf = io::large_buffer();
+    let mut buf = [0u8; 65536];
     let made = records::make(&mut from, &mut buf);
     let n = within(made, &buf);
     if bare {
@@ -160,10 +156,8 @@ fn once(bench: Bench, bare: bool, from: &mut u64, sum: u64) -> u64 {
 fn solves(bench: Bench, bare: bool, count: u64) -> u64 {
     let mut from = inputs::SEED;
     let mut sum = fold::EMPTY;
-    let mut k = 0;
-    while k < count {
+    for _ in 0..count {
         sum = once(bench, bare, &mut from, sum);
-        k += 1;
     }
     sum
 }

@@ -6,8 +6,9 @@
 ghost use Rattle.std.specs.Prelude.{◌≤◌, length};
 ghost use Rattle.desk.specs.Keeps.{Inside, Keeps};
 
-use libc::STDERR_FILENO;
+use console::Named;
 use split::Found;
+use std::io::Read;
 use text::Made;
 
 // How much of a line is kept: one byte more than it may have, so that a longer one is known as such.
@@ -17,10 +18,10 @@ const KEPT: usize = 1001;
 const USED: usize = 2817;
 
 // Writes the reply to a line, and answers whether that went well. 512 bytes have room for every reply.
-fn answer(used: &[u8], line: &[u8]) -> bool {
+fn answer(rt: &(impl Print + Eprint), used: &[u8], line: &[u8]) -> bool {
     let mut out = [0u8; 512];
     match reply::reply(used, line, &mut out) {
-        Made::Line(n) => console::print(&out[..n]),
+        Made::Line(n) => console::print(rt, &out[..n]),
         Made::Refused(_) => false,
     }
 }
@@ -33,7 +34,7 @@ enum Fed {
 }
 
 // Answers the lines that end in the input.
-fn feed(used: &[u8], input: &[u8], line: &mut [u8], kept: usize) -> Fed
+fn feed(rt: &(impl Print + Eprint), used: &[u8], input: &[u8], line: &mut [u8], kept: usize) -> Fed
     requires { kept ≤ length line.old }
     ensures { Inside result (length line.new) × Keeps input.now line.old kept line.new result }
 {
@@ -42,7 +43,7 @@ fn feed(used: &[u8], input: &[u8], line: &mut [u8], kept: usize) -> Fed
     loop {
         match split::next_line(line, k, input, from) {
             Found::Line(n, at) => {
-                if !answer(used, &line[..n]) {
+                if !answer(rt, used, &line[..n]) {
                     return Fed::Stopped;
                 }
                 k = 0;
@@ -54,63 +55,71 @@ fn feed(used: &[u8], input: &[u8], line: &mut [u8], kept: usize) -> Fed
 }
 
 // One read, and the lines that it ends.
-fn take_some(used: &[u8], line: &mut [u8], kept: usize) -> Fed
+fn take_some(
+    rt: &(impl Print + Eprint),
+    from: &mut impl Read,
+    used: &[u8],
+    line: &mut [u8],
+    kept: usize,
+) -> Fed
     requires { kept ≤ length line.old }
     ensures { Inside result (length line.new) }
 {
     let mut input = [0u8; 65536];
-    let got = console::read_some(&mut input);
+    let got = console::read_some(rt, from, &mut input);
     if got.failed {
         return Fed::Stopped;
     }
     if got.length == 0 {
         if kept > 0 {
-            answer(used, &line[..kept]);
+            answer(rt, used, &line[..kept]);
         }
         return Fed::Stopped;
     }
-    feed(used, &input[..got.length], line, kept)
+    feed(rt, used, &input[..got.length], line, kept)
 }
 
 // The answers to the lines of standard input. A proved loop has to end, and nothing says that the input does: the turns are
-// counted down from a number that no run uses up.
-fn serve(used: &[u8]) {
+// counted up to a number that no run reaches.
+fn serve(rt: &(impl Print + Eprint), from: &mut impl Read, used: &[u8]) {
     let mut line = [0u8; KEPT];
     let mut kept = 0;
-    let mut turns = u64::MAX;
-    while turns > 0 {
-        let Fed::Kept(k) = take_some(used, &mut line, kept) else {
+    for _ in 0..u64::MAX {
+        let Fed::Kept(k) = take_some(rt, from, used, &mut line, kept) else {
             return;
         };
         kept = k;
-        turns -= 1;
     }
 }
 
 // The same by the settings in a file that is open.
-fn serve_by(fd: i32, name: &[u8]) {
+fn serve_by(
+    rt: &(impl Print + Eprint),
+    from: &mut impl Read,
+    settings: &mut impl Read,
+    name: &[u8],
+) {
     let mut buf = [0u8; USED];
-    let input = console::read_whole(fd, name, &mut buf);
+    let input = console::read_whole(rt, settings, name, &mut buf);
     if !input.failed {
-        serve(&buf[..input.length]);
+        serve(rt, from, &buf[..input.length]);
     }
 }
 
-fn main() {
-    let count = os::arg_count();
+fn main(rt: HostRuntime) {
+    let mut from = rt.stdin();
+    let count = console::arg_count(&rt);
     if count < 2 {
-        serve(b"");
+        serve(&rt, &mut from, b"");
         return;
     }
     if count > 2 {
-        io::write_all(STDERR_FILENO, b"desk: one file of settings at most\n");
+        console::say(&rt, b"desk: one file of settings at most\n");
         return;
     }
-    let mut path = io::buffer();
-    let file = console::open_named(&mut path);
-    if file.fd < 0 {
-        return;
+    let mut path = [0u8; console::WORD];
+    let Named { file, length } = console::open_named(&rt, &mut path);
+    if let Some(mut file) = file {
+        serve_by(&rt, &mut from, &mut file, &path[..length]);
     }
-    serve_by(file.fd, &path[..file.length]);
-    libc::close(file.fd);
 }

@@ -5,92 +5,102 @@
 ghost use Rattle.std.specs.Prelude.{◌≤◌, length};
 ghost use Rattle.history.specs.Within.{Within};
 
-use libc::STDIN_FILENO;
 use orders::Order;
 use settings::Stored;
+use std::fs::OpenOptions;
+use std::io;
+use std::io::Write;
+use std::rt::Files;
 use text::Made;
 
-const KEPT_FILENO: i32 = 3;
+// What stands behind descriptor 3, by its path.
+const KEPT: &str = "/dev/fd/3";
 
-fn list(s: &[u8]) {
+fn list(rt: &(impl Print + Eprint), s: &[u8]) {
     let mut out = [0u8; 16384];
     match versions::list(s, &mut out) {
         Made::Line(n) => {
-            console::print(&out[..n]);
+            console::print(rt, &out[..n]);
         }
         Made::Refused(_) => {}
     }
 }
 
-fn show(s: &[u8], k: u64) {
+fn show(rt: &(impl Print + Eprint), s: &[u8], k: u64) {
     let mut out = [0u8; 512];
     match versions::show(s, k, &mut out) {
         Made::Line(n) => {
-            console::print(&out[..n]);
+            console::print(rt, &out[..n]);
         }
         Made::Refused(_) => {}
     }
 }
 
-fn refuse(number: u32) {
+fn refuse(rt: &(impl Print + Eprint), number: u32) {
     let mut out = [0u8; 512];
     let n = columns::refused(&mut out, number);
-    console::print(&out[..n]);
+    console::print(rt, &out[..n]);
 }
 
-fn unread(word: u64) {
+fn unread(rt: &(impl Print + Eprint), word: u64) {
     let mut out = [0u8; 512];
     let n = columns::unread(&mut out, word);
-    console::print(&out[..n]);
+    console::print(rt, &out[..n]);
 }
 
 // The used part as it is now, and the line of its last version, which was just stored.
-fn kept(s: &[u8], k: u64) {
-    if !io::write_all(KEPT_FILENO, s) {
-        os::fail(b"the used part with the new version");
-        return;
+fn kept(rt: &(impl Files + Print + Eprint), s: &[u8], k: u64) {
+    match hand_on(rt, s) {
+        Ok(()) => show(rt, s, k),
+        Err(why) => console::fail(rt, b"the used part with the new version", why),
     }
-    show(s, k);
 }
 
-fn keep(buf: &[u8], answer: Stored)
+// Writes the used part behind what descriptor 3 has so far.
+fn hand_on(rt: &impl Files, s: &[u8]) -> io::Result<()> {
+    OpenOptions::new().append(true).open(rt, KEPT)?.write_all(s)
+}
+
+fn keep(rt: &(impl Files + Print + Eprint), buf: &[u8], answer: Stored)
     requires { Within answer buf.now }
 {
     match answer {
-        Stored::Version(k, e) => kept(&buf[..e], k),
-        Stored::Refused(number) => refuse(number),
+        Stored::Version(k, e) => kept(rt, &buf[..e], k),
+        Stored::Refused(number) => refuse(rt, number),
     }
 }
 
-fn obey(order: Order, buf: &mut [u8], used: usize)
+fn obey(rt: &(impl Files + Print + Eprint), order: Order, buf: &mut [u8], used: usize)
     requires { used ≤ length buf.old }
 {
     match order {
-        Order::List => list(&buf[..used]),
-        Order::Show(k) => show(&buf[..used], k),
+        Order::List => list(rt, &buf[..used]),
+        Order::Show(k) => show(rt, &buf[..used], k),
         Order::Store(x) => {
             let answer = settings::store(buf, used, x);
-            keep(buf, answer);
+            keep(rt, buf, answer);
         }
         Order::Back(k) => {
             let answer = settings::go_back(buf, used, k);
-            keep(buf, answer);
+            keep(rt, buf, answer);
         }
-        Order::Unread(word) => unread(word),
+        Order::Unread(word) => unread(rt, word),
     }
 }
 
 // One byte more than 64 versions have, so that a longer used part is known as such.
-fn main() {
-    let mut line = io::buffer();
-    let n = os::arg(1, &mut line);
-    if os::errno() != 0 {
-        os::fail(b"the order");
-        return;
-    }
+fn main(rt: HostRuntime) {
+    let mut line = [0u8; console::WORD];
+    let n = match console::arg(&rt, 1, &mut line) {
+        Ok(n) => n,
+        Err(why) => {
+            console::fail(&rt, b"the order", why);
+            return;
+        }
+    };
     let mut buf = [0u8; 2817];
-    let input = console::read_whole(STDIN_FILENO, b"the settings", &mut buf);
+    let input = console::read_whole(&rt, &mut rt.stdin(), b"the settings", &mut buf);
     if !input.failed {
-        obey(orders::read(&line[..n]), &mut buf, input.length);
+        obey(&rt, orders::read(&line[..n]), &mut buf, input.length);
     }
 }

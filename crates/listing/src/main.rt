@@ -2,46 +2,45 @@
 // write for many lines; where the session cannot be read, a message goes to standard error and nothing to standard output.
 #![tactic(auto)]
 
-use libc::{STDERR_FILENO, STDIN_FILENO};
+use console::Named;
 use report::{Filling, Next};
+use std::io::Read;
 
-fn main() {
-    let count = os::arg_count();
+fn main(rt: HostRuntime) {
+    let count = console::arg_count(&rt);
     if count < 2 {
-        list_from(STDIN_FILENO, b"standard input");
+        list_from(&rt, &mut rt.stdin(), b"standard input");
         return;
     }
     if count > 2 {
-        io::write_all(STDERR_FILENO, b"listing: one file at most\n");
+        console::say(&rt, b"listing: one file at most\n");
         return;
     }
-    let mut path = io::buffer();
-    let file = console::open_named(&mut path);
-    if file.fd < 0 {
-        return;
+    let mut path = [0u8; console::WORD];
+    let Named { file, length } = console::open_named(&rt, &mut path);
+    if let Some(mut file) = file {
+        list_from(&rt, &mut file, &path[..length]);
     }
-    list_from(file.fd, &path[..file.length]);
-    libc::close(file.fd);
 }
 
 // One byte more than a session may have, so that a longer one is known as such.
-fn list_from(fd: i32, name: &[u8]) {
+fn list_from(rt: &(impl Print + Eprint), from: &mut impl Read, name: &[u8]) {
     let mut session = [0u8; 65537];
-    let input = console::read_whole(fd, name, &mut session);
+    let input = console::read_whole(rt, from, name, &mut session);
     if input.failed {
         return;
     }
     let mut out = [0u8; 131072];
-    list(&session[..input.length], &mut out);
+    list(rt, &session[..input.length], &mut out);
 }
 
-fn list(s: &[u8], out: &mut [u8]) {
+fn list(rt: &(impl Print + Eprint), s: &[u8], out: &mut [u8]) {
     let mut next = Next::Heading;
     loop {
         let Filling::Lines(f) = report::fill(s, next, out) else {
             return;
         };
-        if !console::print(&out[..f.length]) {
+        if !console::print(rt, &out[..f.length]) {
             return;
         }
         next = f.next;

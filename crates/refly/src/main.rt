@@ -4,73 +4,73 @@
 #![tactic(auto)]
 
 use account::{Made, Next};
+use console::Named;
 use flight::Mu;
-use libc::STDERR_FILENO;
 use numerals::Number;
 use replay::{Replay, Vehicle};
+use std::env::Env;
+use std::io::Read;
+use std::rt::Files;
 
-fn main() {
-    let count = os::arg_count();
+fn main(rt: HostRuntime) {
+    let count = console::arg_count(&rt);
     if count == 2 {
         let mu = Mu {
             earth: 39860120000.0,
             moon: 490277800.0,
         };
-        open(mu);
+        open(&rt, mu);
         return;
     }
     if count != 4 {
-        io::write_all(
-            STDERR_FILENO,
+        console::say(
+            &rt,
             b"refly: a file, or a file and mu of the earth and the moon\n",
         );
         return;
     }
-    match number(2) {
+    match number(&rt, 2) {
         Number::Unread => {
-            io::write_all(STDERR_FILENO, b"refly: mu of the earth is not a number\n");
+            console::say(&rt, b"refly: mu of the earth is not a number\n");
         }
-        Number::Read(earth) => match number(3) {
+        Number::Read(earth) => match number(&rt, 3) {
             Number::Unread => {
-                io::write_all(STDERR_FILENO, b"refly: mu of the moon is not a number\n");
+                console::say(&rt, b"refly: mu of the moon is not a number\n");
             }
-            Number::Read(moon) => open(Mu { earth, moon }),
+            Number::Read(moon) => open(&rt, Mu { earth, moon }),
         },
     }
 }
 
 // A word of the command as a number, as at the desk.
-fn number(k: usize) -> Number {
-    let mut word = io::buffer();
-    let n = os::arg(k, &mut word);
-    if os::errno() != 0 {
-        return Number::Unread;
+fn number(rt: &impl Env, k: usize) -> Number {
+    let mut word = [0u8; console::WORD];
+    match console::arg(rt, k, &mut word) {
+        Ok(n) => numerals::read_number(&word[..n]),
+        Err(_) => Number::Unread,
     }
-    numerals::read_number(&word[..n])
 }
 
-fn open(mu: Mu) {
-    let mut path = io::buffer();
-    let file = console::open_named(&mut path);
-    if file.fd < 0 {
-        return;
+fn open(rt: &(impl Env + Files + Print + Eprint), mu: Mu) {
+    let mut path = [0u8; console::WORD];
+    let Named { file, length } = console::open_named(rt, &mut path);
+    if let Some(mut file) = file {
+        fly_from(rt, mu, &mut file, &path[..length]);
     }
-    fly_from(mu, file.fd, &path[..file.length]);
-    libc::close(file.fd);
 }
 
 // One byte more than a session may have, so that a longer one is known as such.
-fn fly_from(mu: Mu, fd: i32, name: &[u8]) {
+fn fly_from(rt: &(impl Print + Eprint), mu: Mu, from: &mut impl Read, name: &[u8]) {
     let mut session = [0u8; 65537];
-    let input = console::read_whole(fd, name, &mut session);
+    let input = console::read_whole(rt, from, name, &mut session);
     if input.failed {
         return;
     }
     let mut line = [0u8; 512];
-    fly(mu, &session[..input.length], &mut line);
+    fly(rt, mu, &session[..input.length], &mut line);
 }
 
-fn fly(mu: Mu, s: &[u8], line: &mut [u8]) {
+fn fly(rt: &(impl Print + Eprint), mu: Mu, s: &[u8], line: &mut [u8]) {
     let mut next = Next::Heading;
     let mut p = Replay {
         v0: Vehicle::Unset,
@@ -80,7 +80,7 @@ fn fly(mu: Mu, s: &[u8], line: &mut [u8]) {
         let Made::Line(t) = account::tell(mu, s, next, p, line) else {
             return;
         };
-        if !console::print(&line[..t.length]) {
+        if !console::print(rt, &line[..t.length]) {
             return;
         }
         next = t.next;

@@ -2,32 +2,31 @@
 // read, a message goes to standard error and nothing to standard output.
 #![tactic(auto)]
 
-use libc::STDIN_FILENO;
 use script::Shown;
 use session::Place;
 
 // One byte more than a session may have, so that a longer one is known as such.
-fn main() {
+fn main(rt: HostRuntime) {
     let mut session = [0u8; 65537];
-    let input = console::read_whole(STDIN_FILENO, b"standard input", &mut session);
+    let input = console::read_whole(&rt, &mut rt.stdin(), b"standard input", &mut session);
     if !input.failed {
-        show(&session[..input.length]);
+        show(&rt, &session[..input.length]);
     }
 }
 
-fn show(s: &[u8]) {
+fn show(rt: &(impl Print + Eprint), s: &[u8]) {
     let mut out = [0u8; 512];
     let mut place = Place { at: 0, offset: 0 };
     loop {
         match script::show_at(s, place, &mut out) {
             Shown::Lines(n, behind) => {
-                if !console::print(&out[..n]) {
+                if !console::print(rt, &out[..n]) {
                     return;
                 }
                 place = behind;
             }
             Shown::Last(n) => {
-                console::print(&out[..n]);
+                console::print(rt, &out[..n]);
                 return;
             }
             Shown::Refused(_) => return,

@@ -6,22 +6,23 @@
 ghost use Rattle.watch.specs.Feeds.{Feeds};
 
 use session::Place;
+use std::io::Read;
 use stream::{Standing, Step};
 use text::Made;
 
-fn write_heading() -> bool {
+fn write_heading(rt: &(impl Print + Eprint)) -> bool {
     let mut line = [0u8; 40];
     match lines::heading(&mut line) {
-        Made::Line(n) => console::print(&line[..n]),
+        Made::Line(n) => console::print(rt, &line[..n]),
         Made::Refused(_) => false,
     }
 }
 
 // Where the step has no line, nothing is written.
-fn write_step(step: Step) -> bool {
+fn write_step(rt: &(impl Print + Eprint), step: Step) -> bool {
     let mut line = [0u8; 40];
     match follow::step_line(&mut line, step) {
-        Made::Line(n) => console::print(&line[..n]),
+        Made::Line(n) => console::print(rt, &line[..n]),
         Made::Refused(_) => false,
     }
 }
@@ -34,14 +35,14 @@ enum Fed {
 }
 
 // Lists the records that end in the input.
-fn feed(state: Standing, room: &mut [u8], input: &[u8]) -> Fed
+fn feed(rt: &(impl Print + Eprint), state: Standing, room: &mut [u8], input: &[u8]) -> Fed
     ensures { Feeds state room.old input.now room.new result }
 {
     let mut x = state;
     let mut from = 0;
     loop {
         let step = stream::take_next(x, room, input, from);
-        if !write_step(step) {
+        if !write_step(rt, step) {
             return Fed::Failed;
         }
         match step {
@@ -59,18 +60,23 @@ fn feed(state: Standing, room: &mut [u8], input: &[u8]) -> Fed
 }
 
 // One read, and the lines that it ends.
-fn take_some(state: Standing, room: &mut [u8]) -> Fed {
+fn take_some(
+    rt: &(impl Print + Eprint),
+    from: &mut impl Read,
+    state: Standing,
+    room: &mut [u8],
+) -> Fed {
     let mut input = [0u8; 65536];
-    let got = console::read_some(&mut input);
+    let got = console::read_some(rt, from, &mut input);
     if got.failed {
         return Fed::Failed;
     }
     if got.length == 0 {
         let last = stream::finish(state);
-        write_step(Step::Stopped(last));
+        write_step(rt, Step::Stopped(last));
         return Fed::Read(last);
     }
-    feed(state, room, &input[..got.length])
+    feed(rt, state, room, &input[..got.length])
 }
 
 fn is_open(state: Standing) -> bool {
@@ -81,23 +87,22 @@ fn is_open(state: Standing) -> bool {
     }
 }
 
-// A proved loop has to end, and nothing says that the input does: the turns are counted down from a number that no run
-// uses up.
-fn main() {
-    if !write_heading() {
+// A proved loop has to end, and nothing says that the input does: the turns are counted up to a number that no run
+// reaches.
+fn main(rt: HostRuntime) {
+    if !write_heading(&rt) {
         return;
     }
+    let mut from = rt.stdin();
     let mut room = [0u8; 62];
     let mut state = Standing::Open(Place { at: 0, offset: 0 }, 0);
-    let mut turns = u64::MAX;
-    while turns > 0 {
-        let Fed::Read(x) = take_some(state, &mut room) else {
+    for _ in 0..u64::MAX {
+        let Fed::Read(x) = take_some(&rt, &mut from, state, &mut room) else {
             return;
         };
         if !is_open(x) {
             return;
         }
         state = x;
-        turns -= 1;
     }
 }

@@ -6,8 +6,8 @@ ghost use Rattle.std.specs.Prelude.{◌≤◌, length};
 ghost use Rattle.write.specs.Feed.{Inside, Feeds, Holds};
 
 use book::Progress;
-use libc::STDERR_FILENO;
 use split::Found;
+use std::io::Read;
 use text::Made;
 
 // How much of a line is kept: one byte more than it may have, so that a longer one is known as such.
@@ -57,27 +57,25 @@ fn feed(
 }
 
 // Says which line ended it.
-fn complain(t: Progress) {
+fn complain(rt: &impl Eprint, t: Progress) {
     let mut buf = [0u8; 64];
     match book::tell(t, &mut buf) {
-        Made::Line(n) => {
-            io::write_all(STDERR_FILENO, &buf[..n]);
-        }
+        Made::Line(n) => console::say(rt, &buf[..n]),
         Made::Refused(_) => {}
     }
 }
 
 // The end of the input: what is kept is a line with no newline, which may be empty.
-fn finish(session: &mut [u8], at: usize, count: u64, rest: &[u8])
+fn finish(rt: &(impl Print + Eprint), session: &mut [u8], at: usize, count: u64, rest: &[u8])
     requires { at ≤ length session.old }
 {
     let t = book::add(session, at, count, rest);
     match t {
         Progress::Going(n, _) => {
-            console::print(&session[..n]);
+            console::print(rt, &session[..n]);
         }
-        Progress::Unread(_, _) => complain(t),
-        Progress::Refused(_, _) => complain(t),
+        Progress::Unread(_, _) => complain(rt, t),
+        Progress::Refused(_, _) => complain(rt, t),
     }
 }
 
@@ -89,44 +87,59 @@ enum Taken {
 }
 
 // One read, and the lines that it ends.
-fn take_some(line: &mut [u8], kept: usize, session: &mut [u8], at: usize, count: u64) -> Taken
+fn take_some(
+    rt: &(impl Print + Eprint),
+    from: &mut impl Read,
+    line: &mut [u8],
+    kept: usize,
+    session: &mut [u8],
+    at: usize,
+    count: u64,
+) -> Taken
     requires { (kept ≤ length line.old) × (at ≤ length session.old) }
     ensures { Holds result (length line.new) (length session.new) }
 {
     let mut input = [0u8; 65536];
-    let got = console::read_some(&mut input);
+    let got = console::read_some(rt, from, &mut input);
     if got.failed {
         return Taken::Done;
     }
     if got.length == 0 {
-        finish(session, at, count, &line[..kept]);
+        finish(rt, session, at, count, &line[..kept]);
         return Taken::Done;
     }
     match feed(&input[..got.length], line, kept, session, at, count) {
         Fed::Kept(k, a, m) => Taken::More(k, a, m),
         Fed::Stopped(t) => {
-            complain(t);
+            complain(rt, t);
             Taken::Done
         }
     }
 }
 
-// A proved loop has to end, and nothing says that the input does: the turns are counted down from a number that no run
-// uses up.
-fn main() {
+// A proved loop has to end, and nothing says that the input does: the turns are counted up to a number that no run
+// reaches.
+fn main(rt: HostRuntime) {
+    let mut from = rt.stdin();
     let mut line = [0u8; KEPT];
     let mut session = [0u8; 65536];
     let mut kept = 0;
     let mut at = 0;
     let mut count: u64 = 0;
-    let mut turns = u64::MAX;
-    while turns > 0 {
-        let Taken::More(k, a, m) = take_some(&mut line, kept, &mut session, at, count) else {
+    for _ in 0..u64::MAX {
+        let Taken::More(k, a, m) = take_some(
+            &rt,
+            &mut from,
+            &mut line,
+            kept,
+            &mut session,
+            at,
+            count,
+        ) else {
             return;
         };
         kept = k;
         at = a;
         count = m;
-        turns -= 1;
     }
 }
