@@ -16,7 +16,6 @@ use Rattle.columns.specs.Rows.{labelled_pieces, end_pieces}
 use Rattle.columns.proofs.RowLaws.{end_short, labelled-short}
 use Rattle.vector.specs.declared.State.{State}
 use Rattle.session.specs.declared.record.Kind.{Kind}
-use Rattle.session.specs.declared.record.Kind.TheVariants as K
 use Rattle.session.specs.declared.record.Record.{Record}
 use Rattle.session.specs.Layout.{kind_in, vehicle_in, time_in}
 use Rattle.lines.specs.Days.{local_of, day_of, cs_of}

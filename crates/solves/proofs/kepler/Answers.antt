@@ -12,29 +12,26 @@ use Rattle.solves.proofs.kepler.Goals as goal
 pub returns-then-w-ne0 : goal.returns-then-w-ne0
 unfolding numbers
 returns-then-w-ne0 c =
-    let n = c.numbers-w in
     let a = c.args in
-    let s : length n.new.1.1.0 ≡ 8 = omega (arith, n.auto.1.1.0) in
-    λ ask. sym (first-bad 8 (kepler_go ask) a.line.now a.k n.new.1.1.0 s n.ensures c.if-w-ne0.true)
+    let s : length c.numbers-w.new.xs ≡ 8 = omega (arith, c.numbers-w.auto.xs) in
+    λ ask. sym (first-bad 8 (kepler_go ask) a.line.now a.k c.numbers-w.new.xs s c.numbers-w.ensures c.if-w-ne0.true)
 
 pub returns-in-Read : goal.returns-in-Read
 unfolding numbers
 returns-in-Read c =
-    let n = c.numbers-w in
     let a = c.args in
-    let s : length n.new.1.1.0 ≡ 8 = omega (arith, n.auto.1.1.0) in
+    let s : length c.numbers-w.new.xs ≡ 8 = omega (arith, c.numbers-w.auto.xs) in
     λ ask.
-    first-there 8 (kepler_go ask) a.line.now a.k n.new.1.1.0 s n.ensures c.if-w-ne0.false
-    ∙ c.read.ensures (kepler_ask ask n.new.1.1.0)
-    ∙ ap (λ (r : Options). asked r (kepler_ask ask n.new.1.1.0)) c.in-Read.is
+    first-there 8 (kepler_go ask) a.line.now a.k c.numbers-w.new.xs s c.numbers-w.ensures c.if-w-ne0.false
+    ∙ c.read.ensures (kepler_ask ask c.numbers-w.new.xs)
+    ∙ ap (λ (r : Options). asked r (kepler_ask ask c.numbers-w.new.xs)) c.in-Read.is
 
 pub returns-in-Unread : goal.returns-in-Unread
 unfolding numbers
 returns-in-Unread c =
-    let n = c.numbers-w in
     let a = c.args in
-    let s : length n.new.1.1.0 ≡ 8 = omega (arith, n.auto.1.1.0) in
+    let s : length c.numbers-w.new.xs ≡ 8 = omega (arith, c.numbers-w.auto.xs) in
     λ ask.
-    first-there 8 (kepler_go ask) a.line.now a.k n.new.1.1.0 s n.ensures c.if-w-ne0.false
-    ∙ c.read.ensures (kepler_ask ask n.new.1.1.0)
-    ∙ ap (λ (r : Options). asked r (kepler_ask ask n.new.1.1.0)) c.in-Unread.is
+    first-there 8 (kepler_go ask) a.line.now a.k c.numbers-w.new.xs s c.numbers-w.ensures c.if-w-ne0.false
+    ∙ c.read.ensures (kepler_ask ask c.numbers-w.new.xs)
+    ∙ ap (λ (r : Options). asked r (kepler_ask ask c.numbers-w.new.xs)) c.in-Unread.is
