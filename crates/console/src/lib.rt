@@ -64,7 +64,9 @@ pub fn fail(rt: &impl Eprint, what: &[u8], why: Error) {
 
 // Writes the text to standard output, and answers whether that went well; else standard error says so. An empty text is
 // no write at all.
-pub fn print(rt: &(impl Print + Eprint), text: &[u8]) -> bool {
+pub fn print(rt: &(impl Print + Eprint), text: &[u8]) -> bool
+    ensures { Unit {0} }
+{
     match rt.write_all(text) {
         Ok(()) => true,
         Err(why) => {

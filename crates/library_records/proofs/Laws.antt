@@ -7,7 +7,6 @@ use lib.IntN.{ℤ}
 use lib.ListN.{length}
 use lib.Ieee.{Float}
 use Rattle.session.specs.declared.record.Record.{Record}
-use Rattle.session.specs.declared.record.Record.TheVariants as K
 use Rattle.session.specs.Kinds.{record_length}
 use Rattle.session.specs.Layout.{kind_in}
 use Rattle.session.specs.Offset.{offset_bytes}

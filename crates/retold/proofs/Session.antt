@@ -29,7 +29,6 @@ use Rattle.session.proofs.Allowed.{decoded-allowed}
 use Rattle.session.proofs.Progress.{found}
 use Rattle.text.specs.Text.{Stands}
 use Rattle.text.proofs.Stand.{before-place, same_size}
-use Rattle.writer.specs.declared.record.Written.TheVariants as W
 use Rattle.writer.specs.Write.{has_room, place_behind, written_of, buffer_of, offset_may, offset_buffer}
 use Rattle.writer.proofs.Cases.{stood}
 use Rattle.writer.proofs.Laws.{offset-length}

@@ -1,0 +1,11 @@
+-- By the elevation read. Assumes nothing.
+use mathlib.Core.Path.{sym, ap, ◌∙◌}
+use Rattle.numerals.specs.Numbers.{word_whole}
+use Rattle.forms.proofs.Steps.{by_whole_lem}
+use Rattle.looks.proofs.elevation.Goals as goal
+
+pub returns-in-Read : goal.returns-in-Read
+returns-in-Read c = c.axes.ensures ∙ sym (by_whole_lem 7 _ _ (c.read_whole.ensures ∙ ap word_whole c.word.ensures) c.in-Read.is)
+
+pub returns-in-Unread : goal.returns-in-Unread
+returns-in-Unread c = sym (by_whole_lem 7 _ _ (c.read_whole.ensures ∙ ap word_whole c.word.ensures) c.in-Unread.is)

@@ -1,0 +1,31 @@
+-- The table's names, in their order. Assumes nothing.
+use mathlib.Core.Path.{sym, ◌∙◌}
+use Rattle.forms.proofs.Steps.{by_word}
+use Rattle.requests.proofs.routine.Goals as goal
+
+pub returns-then-is_word : goal.returns-then-is_word
+returns-then-is_word c = c.root.ensures ∙ sym (by_word 0 _ _ _ _ c.requires c.is_word.ensures c.if-is_word.true)
+
+pub returns-then-is_word-2 : goal.returns-then-is_word-2
+returns-then-is_word-2 c = c.c.ensures ∙ sym (by_word 0 _ _ _ _ c.requires c.is_word.ensures c.if-is_word.false ∙ by_word 0 _ _ _ _ c.requires c.is_word-2.ensures c.if-is_word-2.true)
+
+pub returns-then-is_word-3 : goal.returns-then-is_word-3
+returns-then-is_word-3 c = c.s.ensures ∙ sym (by_word 0 _ _ _ _ c.requires c.is_word.ensures c.if-is_word.false ∙ by_word 0 _ _ _ _ c.requires c.is_word-2.ensures c.if-is_word-2.false ∙ by_word 0 _ _ _ _ c.requires c.is_word-3.ensures c.if-is_word-3.true)
+
+pub returns-then-is_word-4 : goal.returns-then-is_word-4
+returns-then-is_word-4 c = c.trial.ensures ∙ sym (by_word 0 _ _ _ _ c.requires c.is_word.ensures c.if-is_word.false ∙ by_word 0 _ _ _ _ c.requires c.is_word-2.ensures c.if-is_word-2.false ∙ by_word 0 _ _ _ _ c.requires c.is_word-3.ensures c.if-is_word-3.false ∙ by_word 0 _ _ _ _ c.requires c.is_word-4.ensures c.if-is_word-4.true)
+
+pub returns-then-is_word-5 : goal.returns-then-is_word-5
+returns-then-is_word-5 c = c.wheel.ensures ∙ sym (by_word 0 _ _ _ _ c.requires c.is_word.ensures c.if-is_word.false ∙ by_word 0 _ _ _ _ c.requires c.is_word-2.ensures c.if-is_word-2.false ∙ by_word 0 _ _ _ _ c.requires c.is_word-3.ensures c.if-is_word-3.false ∙ by_word 0 _ _ _ _ c.requires c.is_word-4.ensures c.if-is_word-4.false ∙ by_word 0 _ _ _ _ c.requires c.is_word-5.ensures c.if-is_word-5.true)
+
+pub returns-then-is_word-6 : goal.returns-then-is_word-6
+returns-then-is_word-6 c = c.sight.ensures ∙ sym (by_word 0 _ _ _ _ c.requires c.is_word.ensures c.if-is_word.false ∙ by_word 0 _ _ _ _ c.requires c.is_word-2.ensures c.if-is_word-2.false ∙ by_word 0 _ _ _ _ c.requires c.is_word-3.ensures c.if-is_word-3.false ∙ by_word 0 _ _ _ _ c.requires c.is_word-4.ensures c.if-is_word-4.false ∙ by_word 0 _ _ _ _ c.requires c.is_word-5.ensures c.if-is_word-5.false ∙ by_word 0 _ _ _ _ c.requires c.is_word-6.ensures c.if-is_word-6.true)
+
+pub returns-then-is_word-7 : goal.returns-then-is_word-7
+returns-then-is_word-7 c = c.cdh.ensures ∙ sym (by_word 0 _ _ _ _ c.requires c.is_word.ensures c.if-is_word.false ∙ by_word 0 _ _ _ _ c.requires c.is_word-2.ensures c.if-is_word-2.false ∙ by_word 0 _ _ _ _ c.requires c.is_word-3.ensures c.if-is_word-3.false ∙ by_word 0 _ _ _ _ c.requires c.is_word-4.ensures c.if-is_word-4.false ∙ by_word 0 _ _ _ _ c.requires c.is_word-5.ensures c.if-is_word-5.false ∙ by_word 0 _ _ _ _ c.requires c.is_word-6.ensures c.if-is_word-6.false ∙ by_word 0 _ _ _ _ c.requires c.is_word-7.ensures c.if-is_word-7.true)
+
+pub returns-then-is_word-8 : goal.returns-then-is_word-8
+returns-then-is_word-8 c = c.why.ensures ∙ sym (by_word 0 _ _ _ _ c.requires c.is_word.ensures c.if-is_word.false ∙ by_word 0 _ _ _ _ c.requires c.is_word-2.ensures c.if-is_word-2.false ∙ by_word 0 _ _ _ _ c.requires c.is_word-3.ensures c.if-is_word-3.false ∙ by_word 0 _ _ _ _ c.requires c.is_word-4.ensures c.if-is_word-4.false ∙ by_word 0 _ _ _ _ c.requires c.is_word-5.ensures c.if-is_word-5.false ∙ by_word 0 _ _ _ _ c.requires c.is_word-6.ensures c.if-is_word-6.false ∙ by_word 0 _ _ _ _ c.requires c.is_word-7.ensures c.if-is_word-7.false ∙ by_word 0 _ _ _ _ c.requires c.is_word-8.ensures c.if-is_word-8.true)
+
+pub returns : goal.returns
+returns c = c.solve.ensures ∙ sym (by_word 0 _ _ _ _ c.requires c.is_word.ensures c.if-is_word.false ∙ by_word 0 _ _ _ _ c.requires c.is_word-2.ensures c.if-is_word-2.false ∙ by_word 0 _ _ _ _ c.requires c.is_word-3.ensures c.if-is_word-3.false ∙ by_word 0 _ _ _ _ c.requires c.is_word-4.ensures c.if-is_word-4.false ∙ by_word 0 _ _ _ _ c.requires c.is_word-5.ensures c.if-is_word-5.false ∙ by_word 0 _ _ _ _ c.requires c.is_word-6.ensures c.if-is_word-6.false ∙ by_word 0 _ _ _ _ c.requires c.is_word-7.ensures c.if-is_word-7.false ∙ by_word 0 _ _ _ _ c.requires c.is_word-8.ensures c.if-is_word-8.false)
