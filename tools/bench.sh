@@ -1,6 +1,6 @@
 #!/usr/bin/env bash
-# ./cabin bench: the speed of each routine as a ratio to the same work in C. Both programs are built for x86-64, do the
-# same series of solves (second/README.md) and run in turn, five times each; off x86-64 both run under the kit's emulator.
+# ./cabin bench: the speed of each routine as a ratio to the same work in C. Both programs do the same
+# series of solves (second/README.md) and run in turn, five times each.
 # A run of the same series with nothing solved is taken off each time, so that a figure is of the solves alone.
 # It fails where their checksums differ. The library's routines, called from C, are held to the second program's, called the
 # same way: from another file, and not laid out at the call.
@@ -15,8 +15,8 @@ benches=(root:root-by-steps:4000000 root:root:4000000 advance:advance:100000 lam
 build_c() {
     need_cc
     need make make
-    make -s -C "$home/second" CC=$cc OPT='-O3 -flto=auto' OUT="$keep/second-x86-64" LDFLAGS=-static LDLIBS= >&2 ||
-        fail "the second program could not be built for x86-64"
+    make -s -C "$home/second" CC=gcc OPT='-O3 -flto=auto' OUT="$keep/second-o3" LDFLAGS=-static LDLIBS= >&2 ||
+        fail "the second program could not be built"
 }
 
 # The same series over the library's routines, and over the second program's own as functions of other files.
@@ -24,8 +24,8 @@ build_callers() {
     mkdir -p "$keep/callers"
     "$home/cabin" library "$keep/callers"
     build_driver "$keep/callers" -O3 -DTIMED
-    make -s -C "$home/second" CC="$cc" OPT=-O3 OUT="$keep/callers" LDFLAGS=-static LDLIBS= >&2 ||
-        fail "the second program could not be built for x86-64"
+    make -s -C "$home/second" CC=gcc OPT=-O3 OUT="$keep/callers" LDFLAGS=-static LDLIBS= >&2 ||
+        fail "the second program could not be built"
 }
 
 # Runs a program and adds its seconds of processor time, which a busy machine disturbs least, to the file.
@@ -64,8 +64,8 @@ compare() { # RATTLE-SERIES C-SERIES COUNT
 
 ready bench
 build_c
-rattle=("${start[@]}" "${program[bench]}")
-c=("${emulator[@]}" "$keep/second-x86-64/second" bench)
+rattle=("${program[bench]}")
+c=("$keep/second-o3/second" bench)
 times=$(mktemp -d)
 clean+=("$times")
 
@@ -76,11 +76,10 @@ for one in "${benches[@]}"; do
 done
 
 build_callers
-rattle=("${emulator[@]}" "$keep/callers/by_library" bench)
-c=("${emulator[@]}" "$keep/callers/second" bench)
+rattle=("$keep/callers/by_library" bench)
+c=("$keep/callers/second" bench)
 calls=yes
 printf '\n%-14s %10s %12s %12s %8s\n' 'calls from C' count 'library /s' 'C /s' ratio
 for one in root:4000000 advance:100000 lambert:20000 theta:200000; do
     compare "${one%:*}" "${one%:*}" "${one#*:}"
 done
-[ ${#emulator[@]} -eq 0 ] || say "both ran under an emulator: the ratios say something, the nanoseconds do not"

@@ -1,7 +1,7 @@
 #!/usr/bin/env bash
-# ./cabin check [CRATE..]: for the one who edits. Proves the crates named, or those that differ from the main branch, and
-# what stands on them; tries the must-fail edits of the changed ones alone; and holds the stored requests to the second
-# program where the desk stands on a change. The gate for landing is ./cabin test.
+# ./cabin check [CRATE..]: for the one who edits. Lays out and proves the crates named, or those that differ from the main
+# branch, and proves what stands on them; tries the must-fail edits of the changed ones alone; and holds the stored requests
+# to the second program where the desk stands on a change. The gate for landing is ./cabin test.
 home=$(cd "$(dirname "${BASH_SOURCE[0]}")/.." && pwd -P)
 . "$home/tools/front.sh"
 cd "$home"
@@ -18,23 +18,26 @@ changed_files() {
 
 changed_crates() { sed -n 's|^crates/\([^/]*\)/.*|\1|p' | sort -u | while read -r crate; do related above "$crate" | head -n 1; done; }
 
-# Tries the must-fail edits of CRATE.. alone. One that was refused is not tried again while its crate, and what that stands
-# on, is the same.
-try_edits() { # CRATE..
-    local refused=$keep/refused made crate edit key todo=() keys=()
-    touch "$refused"
-    for crate in "$@"; do
-        made=$(digest "$crate")
-        for edit in crates/"$crate"/must-fail/*.edit; do
-            [ -f "$edit" ] || continue
-            key="$edit $made $(sha256sum <"$edit" | cut -c 1-16)"
-            grep -qxF "$key" "$refused" && continue
-            todo+=("$crate/$(basename "$edit" .edit)") keys+=("$key")
-        done
-    done
-    [ ${#keys[@]} -gt 0 ] || { echo "no must-fail edit that was not refused before"; return; }
-    python3 tools/edits.py "${todo[@]}"
-    printf '%s\n' "${keys[@]}" >>"$refused"
+# Proves a crate, and what it stands on where that is not proved.
+prove_crate() { # CRATE
+    (cd "crates/$1" && rt check) >"$keep/$1.check" 2>&1 </dev/null && return
+    grep -E ': error|^fn .*: (not proved|no proof)' "$keep/$1.check" || true
+    fail "'$1' is not proved: $keep/$1.check says why"
+}
+
+# A program writes what its file stdout has and ends as its file status says, run as by `rt ci`.
+writes_as_stored() { # PROGRAM
+    local folder=$home/crates/$1 room given=/dev/null words=() status=0 wanted=0
+    ready "$1"
+    room=$(mktemp -d)
+    clean+=("$room")
+    mkdir "$room/data"
+    [ ! -d "$folder/data" ] || cp -r "$folder/data/." "$room/data"
+    [ ! -f "$folder/args" ] || mapfile -t words <"$folder/args"
+    [ ! -f "$folder/stdin" ] || given=$folder/stdin
+    [ ! -f "$folder/status" ] || wanted=$(cat "$folder/status")
+    (cd "$room/data" && "${program[$1]}" "${words[@]}") <"$given" >"$room/wrote" || status=$?
+    [ "$status" -eq "$wanted" ] && cmp "$folder/stdout" "$room/wrote" || fail "'$1' does not write what crates/$1/stdout has"
 }
 
 need_kit
@@ -49,14 +52,18 @@ fi
 above=()
 [ ${#crates[@]} -eq 0 ] || mapfile -t above < <(related above "${crates[@]}")
 
-rt fmt --check || fail "the layout is not rt fmt's: run rt fmt"
 python3 tools/promises.py
 python3 tools/rules.py
 if [ ${#crates[@]} -gt 0 ]; then
     say "changed: ${crates[*]}; on them stand ${#above[@]} crates, themselves among them"
     lock
-    rt check "${above[@]}" | grep -E '^rt: |error' | grep -v 'unchanged since'
-    try_edits "${crates[@]}"
+    for crate in "${crates[@]}"; do (cd "crates/$crate" && rt fmt); done
+    for crate in "${above[@]}"; do
+        prove_crate "$crate"
+        [ ! -f "crates/$crate/src/main.rt" ] || writes_as_stored "$crate"
+        say "$crate is proved"
+    done
+    rt must-fail "${crates[@]}"
 else
     say "no crate is changed"
 fi

@@ -42,7 +42,7 @@ requests() {
 stops() {
     echo "2000 solves stopped and gone on with, seed $seed"
     ready desk
-    python3 tools/continue.py "${start[*]} ${program[desk]}" "$second desk" 2000 "$seed"
+    python3 tools/continue.py "${program[desk]}" "$second desk" 2000 "$seed"
 }
 
 # Lists every OF-th session by both programs, from the K-th on.
@@ -95,7 +95,7 @@ parts() {
 # That the burn makes two orbits coelliptic, which no rule asks for.
 heights() {
     ready desk
-    python3 tools/coelliptic.py "${start[*]} ${program[desk]}" 1000 "$seed"
+    python3 tools/coelliptic.py "${program[desk]}" 1000 "$seed"
 }
 
 # Settings stored, shown and gone back to, on whole and damaged files.

@@ -48,28 +48,13 @@ need() { # COMMAND PACKAGE..
         fail "it could not be installed: install ${*:2} by hand, then try again"
 }
 
-# The kit, and what starts a program of it: its loader and C library and, off x86-64, its emulator, which alone starts a
-# program that is linked statically.
+# The kit, which proves and builds; what it builds runs by itself.
 need_kit() {
-    local tools
     command -v rt >/dev/null || fail "the Rattle kit is not on this machine (no command 'rt'): install it, then try again"
-    tools=$(dirname "$(dirname "$(rt doc)")")/on/$(uname -m)/toolchain
-    emulator=()
-    [ ! -x "$tools/bin/qemu-x86_64" ] || emulator=("$tools/bin/qemu-x86_64")
-    start=("${emulator[@]}" "$tools/lib/ld-linux-x86-64.so.2" --library-path "$tools/lib")
-    unset "${!QEMU_@}"
 }
 
-# A C compiler for x86-64: `cc`.
-need_cc() {
-    cc=gcc
-    if [ "$(uname -m)" = x86_64 ]; then
-        need gcc gcc libc6-dev
-    else
-        cc=x86_64-linux-gnu-gcc
-        need "$cc" gcc-x86-64-linux-gnu libc6-dev-amd64-cross
-    fi
-}
+# A C compiler.
+need_cc() { need gcc gcc libc6-dev; }
 
 # ---- crates
 
@@ -88,7 +73,7 @@ related() { # below|above NAME..
         END { n = split(names, list, " "); for (k = 1; k <= n; k++) visit(list[k]) }' "$home/crates.txt"
 }
 
-# A digest of all that a crate's proof and program are made of.
+# A digest of all that a crate's proof, and what is built of it, are made of.
 digest() { # NAME
     local crates
     crates=$(related below "$1")
@@ -96,14 +81,13 @@ digest() { # NAME
     # shellcheck disable=SC2086
     (
         cd "$home/crates"
-        rt version
-        uname -m
+        rt version </dev/null
         cat ../crates.txt
-        find $crates -name must-fail -prune -o -type f -print0 | sort -z | xargs -0 sha256sum
+        find $crates \( -name must-fail -o -name out \) -prune -o -type f -print0 | sort -z | xargs -0 sha256sum
     ) | sha256sum | cut -c 1-16
 }
 
-# ---- programs
+# ---- programs, and the library for C, which is the crate `cabin`
 
 # One proof at a time in a checkout: who comes second waits. Held to the end of the shell that takes it, and by all that
 # it starts.
@@ -115,84 +99,70 @@ lock() {
     export CABIN_LOCKED=yes
 }
 
-# Tells each crate that is proved; those that were proved before are only counted.
-progress() { # OF
-    local line k=0
+# Tells each crate whose proof begins; those that were proved before have none.
+progress() {
+    local line
     while IFS= read -r line; do
-        [[ $line =~ ^rt:\ ([a-z_0-9]+\ proved.*) ]] || continue
-        k=$((k + 1))
-        [[ $line == *'(unchanged since '* ]] || say "$k of $1: ${BASH_REMATCH[1]}"
+        [[ ! $line =~ ^rt:\ chose\ --jobs\ [0-9]+\ for\ (.*) ]] || say "proving ${BASH_REMATCH[1]}"
     done
 }
 
-# Proves and builds a program and moves it in whole, unless that was done while this waited, or its files have changed
-# since it began.
-prove() { # NAME
-    local made log=$keep/$1.log
-    lock
-    made=$(digest "$1") || exit 2
-    [ ! -x "$keep/$1-$made" ] || return 0
-    say "proving and building '$1' (once; a few minutes)"
-    (cd "$home" && rt check "$1") 2>&1 </dev/null | tee "$log" | progress "$(related below "$1" | wc -l)" ||
-        fail "'$1' could not be built: the end of $log says why"
-    [ "$(digest "$1")" = "$made" ] || { say "a file of '$1' changed meanwhile"; return 0; }
-    find "$keep" -name "$1-*" -mmin +60 -delete
-    cp "$home/target/bin/$1" "$keep/$1.new" && mv "$keep/$1.new" "$keep/$1-$made" || fail "'$1' could not be put into $keep"
+# What is built of a crate, in its out/.
+built_of() { # CRATE
+    if [ -f "$home/crates/$1/src/main.rt" ]; then echo "$1"; else echo "lib$1.a"; fi
 }
 
-declare -A program # NAME: the path of its proved program
+# Proves and builds a crate. `rt run` then runs the program, with no input, and has the program's status: that it runs says
+# that it is built.
+build() { # CRATE
+    cd "$home/crates/$1" || return
+    if [ -f src/main.rt ]; then
+        { rt run "$1" 2>&1 >/dev/null || true; } | tee "$keep/$1.log" | progress
+        grep -q "^rt: running out/$1;" "$keep/$1.log"
+    else
+        rt lib "$1" 2>&1 | tee "$keep/$1.log" | progress
+    fi
+}
 
-# Sees to it that a program is there that is made of its files as they are now. Under CABIN_BUILD=no nothing is built: the
-# gate builds once.
-ready() { # NAME
-    [ -f "$home/crates/$1/src/main.rt" ] || fail "'$1' is no program of crates/: those are$(cd "$home/crates" && printf ' %s' */src/main.rt | sed 's|/src/main.rt||g')"
+# Moves what was built of a crate in whole, under a name of its own.
+keep_built() { # CRATE DIGEST
+    local file
+    file=$(built_of "$1")
+    find "$keep" -name "$file-*" -mmin +60 -delete
+    cp "$home/crates/$1/out/$file" "$keep/$file.new" && mv "$keep/$file.new" "$keep/$file-$2" || fail "'$1' could not be put into $keep"
+}
+
+# Proves and builds a crate and keeps what comes out, unless that was done while this waited, or its files have changed since
+# it began.
+prove() { # CRATE
+    local made
+    lock
+    made=$(digest "$1") || exit 2
+    [ ! -f "$keep/$(built_of "$1")-$made" ] || return 0
+    say "proving and building '$1' (once; a few minutes)"
+    (build "$1") </dev/null || fail "'$1' could not be built: the end of $keep/$1.log says why"
+    [ "$(digest "$1")" = "$made" ] || { say "a file of '$1' changed meanwhile"; return 0; }
+    keep_built "$1" "$made"
+}
+
+# Sees to it that what is built of a crate is there, made of its files as they are now: `built`. Under CABIN_BUILD=no nothing
+# is built: the gate builds once.
+ready_crate() { # CRATE
     need_kit
-    while program[$1]=$keep/$1-$(digest "$1"); [ ! -x "${program[$1]}" ]; do
+    while built=$keep/$(built_of "$1")-$(digest "$1"); [ ! -f "$built" ]; do
         [ "${CABIN_BUILD:-yes}" = yes ] || fail "'$1' is not built as its files are now"
         (prove "$1") || exit 2
     done
 }
 
-# The crates whose routines the library has: library, and each whose name begins so.
-library_crates() { sed -n 's/^\(library[a-z_]*\):.*/\1/p' "$home/crates.txt"; }
+declare -A program # NAME: the path of its proved program
 
-# A digest of all that the library is made of.
-library_digest() { library_crates | while read -r crate; do digest "$crate" || exit 2; done | sha256sum | cut -c 1-16; }
-
-# Proves the library's crates and puts what is built of them into one archive, as `prove` does a program. In what is built
-# of a crate all names but those of its own routines are local, so that the parts do not meet.
-prove_library() {
-    local made crates below log=$keep/library.log parts
-    lock
-    need_cc
-    need python3 python3
-    made=$(library_digest) || exit 2
-    [ ! -f "$keep/libcabin-$made.a" ] || return 0
-    crates=$(library_crates)
-    [ -n "$crates" ] || fail "crates.txt lists no crate of the library"
-    say "proving and building the library (once; a few minutes)"
-    below=$(for crate in $crates; do related below "$crate" | tail -n +2; done | sort -u)
-    # shellcheck disable=SC2086
-    (cd "$home" && rt check $below && python3 tools/staticlibs.py $crates) 2>&1 </dev/null | tee "$log" |
-        progress "$(wc -w <<<"$below $crates")" || fail "the library could not be built: the end of $log says why"
-    parts=$(mktemp -d)
-    clean+=("$parts")
-    for crate in $crates; do
-        (cd "$parts" && "${cc%gcc}ar" x "$home/target/staticlib/lib$crate.a") || fail "the library's part '$crate' cannot be read"
-    done
-    [ "$(library_digest)" = "$made" ] || { say "a file of the library changed meanwhile"; return 0; }
-    find "$keep" -name 'libcabin-*.a' -mmin +60 -delete
-    "${cc%gcc}ar" rcsD "$parts/libcabin.a" "$parts"/*.o && mv "$parts/libcabin.a" "$keep/libcabin-$made.a" ||
-        fail "the library could not be put into $keep"
-}
-
-# Sees to it that the static library is there, made of its files as they are now: `archive`.
-ready_library() {
-    need_kit
-    while archive=$keep/libcabin-$(library_digest).a; [ ! -f "$archive" ]; do
-        [ "${CABIN_BUILD:-yes}" = yes ] || fail "the library is not built as its files are now"
-        (prove_library) || exit 2
-    done
+# The same for a program.
+ready() { # NAME
+    local built
+    [ -f "$home/crates/$1/src/main.rt" ] || fail "'$1' is no program of crates/: those are$(cd "$home/crates" && printf ' %s' */src/main.rt | sed 's|/src/main.rt||g')"
+    ready_crate "$1"
+    program[$1]=$built
 }
 
 # Builds FOLDER/by_library: the second program's own programs over the routines of FOLDER's library. What both have is put
@@ -201,17 +171,17 @@ build_driver() { # FOLDER FLAG..
     local to=$1 from=$home/second flags
     flags=(-std=c11 -D_POSIX_C_SOURCE=200809L -ffp-contract=off -fno-math-errno -Wall -Wextra -I"$to" -I"$from" "${@:2}")
     need_cc
-    "$cc" "${flags[@]}" -c -o "$to/session.o" -Dread_record=own_read_record -Dappend_record=own_append_record -Dtake_part=own_take_part "$from/session.c" &&
-        "$cc" "${flags[@]}" -c -o "$to/listing.o" -Dlisting_line=own_listing_line -Dlisting=own_listing "$from/listing.c" &&
-        "$cc" "${flags[@]}" -c -o "$to/settings.o" -Dversion_of=own_version_of -Dtake_fractions=own_take_fractions -Dstore_version=own_store_version -Dgo_back=own_go_back "$from/settings.c" &&
-        "$cc" "${flags[@]}" -static -o "$to/by_library" "$home/library/by_library.c" \
+    gcc "${flags[@]}" -c -o "$to/session.o" -Dread_record=own_read_record -Dappend_record=own_append_record -Dtake_part=own_take_part "$from/session.c" &&
+        gcc "${flags[@]}" -c -o "$to/listing.o" -Dlisting_line=own_listing_line -Dlisting=own_listing "$from/listing.c" &&
+        gcc "${flags[@]}" -c -o "$to/settings.o" -Dversion_of=own_version_of -Dtake_fractions=own_take_fractions -Dstore_version=own_store_version -Dgo_back=own_go_back "$from/settings.c" &&
+        gcc "${flags[@]}" -static -o "$to/by_library" "$home/library/by_library.c" \
             "$from"/{words,pen,desk,files,bench,records,text,versions,replays,tests}.c "$to"/{session,listing,settings}.o \
             "$to/libcabin.a" || fail "the library's driver could not be built"
 }
 
 # Runs a program that is ready.
 run() { # NAME [WORD..]
-    "${start[@]}" "${program[$1]}" "${@:2}" || { say "'$1' ended with status $?"; return 2; }
+    "${program[$1]}" "${@:2}" || { say "'$1' ended with status $?"; return 2; }
 }
 
 # Runs a program that is ready and passes its lines on as they come. Answers 1 where the last one is a refusal.

@@ -29,18 +29,21 @@ NOBODY = 65534
 NO_ROOM = "standard output could not be written: No space left on device\n"
 
 # The kit's stand-in. STUB holds what its runs leave and find: `runs` (a line a start and an end), `hook` (run in the
-# middle of a proof), `ci` (what tools/proofs.sh does).
+# middle of a proof), `ci` (what `rt ci` does once it has built the program).
 KIT = """#!/bin/sh
 case $1 in
 doc) echo @DOC@ ;;
 version) echo stand-in ;;
-fmt) exit 0 ;;
-check)
+ci)
+    mkdir -p crates/listing/out && cp --remove-destination "$STUB/listing" crates/listing/out || exit 2
+    . "$STUB/ci"
+    ;;
+run)
     echo "start $2" >>"$STUB/runs"
     cat >/dev/null
     [ ! -f "$STUB/hook" ] || . "$STUB/hook"
-    mkdir -p target/bin && ln -f "$STUB/$2" "target/bin/$2" || exit 2
-    echo "rt: $2 proved (0 s)"
+    mkdir -p out && ln -f "$STUB/$2" "out/$2" || exit 2
+    echo "rt: running out/$2; to give it other input, run that file yourself" >&2
     echo "end $2" >>"$STUB/runs"
     ;;
 esac
@@ -96,7 +99,6 @@ class Room:
         shutil.copy(ROOT / "cabin", self.home)
         for script in (ROOT / "tools").glob("*.sh"):
             shutil.copy(script, self.home / "tools")
-        (self.home / "tools" / "proofs.sh").write_text('rm -rf target; . "$STUB/ci"\n')
         self.stub.mkdir()
         doc = subprocess.run(["rt", "doc"], capture_output=True, text=True, check=True).stdout.strip()
         (self.stub / "rt").write_text(KIT.replace("@DOC@", doc))
@@ -169,7 +171,7 @@ def _():
 @case("a proof that fails: 2, not 1, and no listing")
 def _():
     with Room() as room:
-        (room.stub / "hook").write_text("echo 'rt: FAILED: listing'; exit 1\n")
+        (room.stub / "hook").write_text("echo 'logic=not-proved' >&2; exit 1\n")
         hold(room.front("list", SAMPLE), 2, b"", "could not be built")
 
 
@@ -921,6 +923,11 @@ def _():
 
 # ---- the gate
 
+# What `rt ci` says where all is well, and of a wrong build that it refuses for no fact.
+OK = "rt: ok; handles allowed: none; must-fail edits: 30 refused"
+NAMED = "rt: must-fail low/edit: refused, as it must be (only because a proof file names what the edit took away, so this says little)"
+
+
 def gate(room, ci, fails=(), lacks=(), **more):
     """The status and the lines of ./cabin test over parts that pass, but for those that fail or are not run."""
     (room.stub / "ci").write_text(ci)
@@ -951,11 +958,17 @@ def _():
         made = parts(lines)
         assert made >= 8 and status == 0 and lines[-1] == f"{41 + made} passed, 0 failed", lines
         assert sum("passed" in line for line in lines) == 1, lines
-        assert room.runs() == ["start listing", "end listing"], "the programs are made ready, once"
+        room.env["CABIN_BUILD"] = "no"
+        hold(room.front("list", SAMPLE), 0, WHOLE)
+        room.env["CABIN_BUILD"] = "yes"
+        assert not room.runs(), "a program is built once more"
         assert "compare sessions was made, build no" in lines, lines
         for ci, fails, count in (
             ('echo "38 passed, 2 failed"; exit 1\n', (), f"{39 + made} passed, 2 failed"),
             ('echo "the toolchain died"; exit 2\n', (), f"{1 + made} passed, 1 failed"),
+            ('echo "40 passed, 0 failed"; exit 1\n', (), f"{41 + made} passed, 1 failed"),
+            (f'echo "{OK}, 1 bad; every proof"; echo "40 passed, 0 failed"\n', (), f"{40 + made} passed, 1 failed"),
+            (f'echo "{NAMED}"; echo "{OK}; every proof"; echo "40 passed, 0 failed"\n', (), f"{40 + made} passed, 1 failed"),
             ('echo "40 passed, 0 failed"\n', ("requests",), f"{40 + made} passed, 1 failed"),
             ('echo "40 passed, 0 failed"\n', ("pages.py", "sessions"), f"{39 + made} passed, 2 failed"),
             ('echo "39 passed, 1 failed"; exit 1\n', ("promises.py", "stored"), f"{38 + made} passed, 3 failed"),

@@ -2,7 +2,6 @@
 # library.sh PART: the library as its callers have it. Parts: header (cabin.h as C11 and as C++17, with all warnings), example
 # (examples/rendezvous.c, held to its stored output), requests (the stored requests and fresh ones by a C driver, whose
 # answers are the desk's to the byte), records and versions (fresh sessions, texts and settings by the driver and by ./cabin).
-# Programs are built for x86-64 and run under the kit's emulator elsewhere.
 home=$(cd "$(dirname "${BASH_SOURCE[0]}")/.." && pwd -P)
 . "$home/tools/front.sh"
 cd "$home"
@@ -22,17 +21,17 @@ header() {
 
 example() {
     need_cc
-    "$cc" -std=c11 "${warnings[@]}" -O2 -I"$room" -static -o "$room/rendezvous" examples/rendezvous.c "$room/libcabin.a"
-    "${emulator[@]}" "$room/rendezvous" >"$room/rendezvous.txt"
+    gcc -std=c11 "${warnings[@]}" -O2 -I"$room" -static -o "$room/rendezvous" examples/rendezvous.c "$room/libcabin.a"
+    "$room/rendezvous" >"$room/rendezvous.txt"
     diff examples/rendezvous.txt "$room/rendezvous.txt"
     echo "examples/rendezvous.c: $(wc -l <"$room/rendezvous.txt") lines as stored"
 }
 
 ask_both() {
-    "${emulator[@]}" "$room/by_library" desk <"$room/requests" >"$room/answers"
+    "$room/by_library" desk <"$room/requests" >"$room/answers"
     run desk <"$room/requests" >"$room/desk"
     python3 second/compare.py "$room/desk" "$room/answers" "$room/requests"
-    "${emulator[@]}" "$room/by_library" ask <"$room/requests" >"$room/answers"
+    "$room/by_library" ask <"$room/requests" >"$room/answers"
     python3 second/compare.py "$room/desk" "$room/answers" "$room/requests"
 }
 
@@ -50,7 +49,7 @@ requests() {
     ask_both
     stand_in
     echo "500 solves stopped and gone on with, seed $seed"
-    python3 tools/continue.py "${start[*]} ${program[desk]}" "$home/$room/stand_in desk" 500 "$seed"
+    python3 tools/continue.py "${program[desk]}" "$home/$room/stand_in desk" 500 "$seed"
 }
 
 # What stands in the second program's place where ./cabin is compared: the driver, and the second program where it makes
@@ -62,7 +61,7 @@ stand_in() {
 #!/bin/sh
 case \$1 in
 requests | sessions | texts | flights) exec "$home/target/second/second" "\$@" ;;
-*) exec ${emulator[*]} "$home/$room/by_library" "\$@" ;;
+*) exec "$home/$room/by_library" "\$@" ;;
 esac
 END
     chmod +x "$room/stand_in"

@@ -1,7 +1,9 @@
 #!/usr/bin/env python3
 """mutants.py SEED [CRATE..]: in the body of every function of a crate one operator, comparison, constant or field becomes
 another of its kind, and the prover must refuse every function. All functions of a crate are altered in one copy, so that a
-crate is one check: what the prover says of a function there it says of that function alone (tools/edits.py says why).
+crate is one check: a function's proof rests on its own code and on the contracts of what it calls, so that what the prover
+says of a function there it says of that function alone. One that it refuses only since another is not proved is tried
+again without that. A copy begins with what `rt check` kept of its crate, which must be proved. RT_JOBS run side by side.
 
 A line for each function that is still proved: its contract has a hole, or the two programs do the same. Functions with
 nothing to alter, and those where the compiler refuses what comes out, are counted apart. Ends with 1 where one is proved."""
@@ -9,11 +11,12 @@ import concurrent.futures
 import pathlib
 import random
 import re
+import shutil
 import sys
 import tempfile
 
-from edits import FUNCTION, ROOMS, Trials, path_of, said_against
-from prover import JOBS, ROOT
+from edits import FUNCTION
+from prover import JOBS, ROOT, Prover
 
 OTHERS = {" + ": [" - "], " - ": [" + "], " * ": [" + "], " / ": [" * "], " % ": [" / "], " <= ": [" < ", " >= "], " < ": [" <= ", " > "],
           " >= ": [" > "], " > ": [" >= ", " < "], " == ": [" != "], " != ": [" == "], ".x": [".y"], ".y": [".z"], ".z": [".x"],
@@ -31,6 +34,12 @@ def mutations(body):
             yield from ((line.start() + site.start(), line.start() + site.end(), new) for new in news)
 
 
+def modules_of(file):
+    """The modules of what stands in a file of src/."""
+    module = file.removeprefix("src/").removesuffix(".rt").removesuffix("/mod")
+    return [] if module in ("lib", "main") else module.split("/")
+
+
 class Mutant:
     """One function with one mutation."""
 
@@ -39,8 +48,7 @@ class Mutant:
         self.file, self.begin, self.end = file, function.start(2) + begin, function.start(2) + end
         self.line = function.string.count("\n", 0, self.begin) + 1
         self.was = function.string.split("\n")[self.line - 1].strip()
-        self.function = (file, function[1])
-        self.crate, self.symbol = crate, "::".join([crate, *path_of(self.function)])
+        self.symbol = "::".join([crate, *modules_of(file), function[1]])
 
 
 def chosen(crate, dice):
@@ -62,17 +70,25 @@ def put(mutants, room):
         (room / file).write_text(text)
 
 
-def check(trials, crate, mutants):
+def copy(crate, room):
+    """The crate's files, and what `rt check` kept of it."""
+    for part in ("src", "specs", "proofs"):
+        if (ROOT / "crates" / crate / part).is_dir():
+            shutil.copytree(ROOT / "crates" / crate / part, room / part)
+    shutil.copytree(ROOT / "crates" / crate / "out" / "incremental", room / "kept")
+
+
+def check(prover, crate, mutants):
     """The mutants that compile, and what the prover said of the copy with all of them in it."""
     while True:
-        with tempfile.TemporaryDirectory(dir=ROOMS) as room:
+        with tempfile.TemporaryDirectory() as room:
             room = pathlib.Path(room)
-            trials.copy(room, crate)
-            put(mutants, room / crate)
-            _, said = trials.check(room, crate)
+            copy(crate, room)
+            put(mutants, room)
+            _, said = prover.ask("check", crate, room, "--jobs", "1", "--incremental", room / "kept")
         if not mutants or re.search(r"^logic=", said, re.M):
             return mutants, said
-        wrong = {(place[1], int(place[2])) for place in re.finditer(r"/(src/\S+?\.rt):(\d+):\d+: error", said)}
+        wrong = {(place[1], int(place[2])) for place in re.finditer(r"^(?:\./)?(src/\S+?\.rt):(\d+):\d+: error", said, re.M)}
         typed = [m for m in mutants if (m.file, m.line) not in wrong]
         if len(typed) == len(mutants):
             raise SystemExit(f"{crate}: neither proved nor refused\n{said[-2000:]}")
@@ -80,19 +96,17 @@ def check(trials, crate, mutants):
 
 
 def refused(mutant, said):
-    """Whether the prover refuses the function for what stands in it; None where it says only that it calls one that is refused."""
+    """Whether the prover refuses the function; None where it says only that it calls one that is refused."""
     line = re.search(rf"^fn {mutant.symbol}: (.*)", said, re.M)[1]
-    if line == "proved":
-        return False
-    return True if "which " not in line or said_against(mutant.crate, [mutant.function], said) else None
+    return None if "which " in line else line != "proved"
 
 
-def try_crate(trials, crate, seed):
+def try_crate(prover, crate, seed):
     """(refused, not typed, with nothing to alter, those still proved)."""
     left, none = chosen(crate, random.Random(f"{seed} {crate}"))
     count, untyped, proved, alone = 0, 0, [], False
     while left:
-        mutants, said = check(trials, crate, left[:1] if alone else left)
+        mutants, said = check(prover, crate, left[:1] if alone else left)
         untyped += (1 if alone else len(left)) - len(mutants)
         told = {m: True if alone and refused(m, said) is None else refused(m, said) for m in mutants}
         count += sum(answer is True for answer in told.values())
@@ -107,10 +121,10 @@ def main():
         print(__doc__, file=sys.stderr)
         return 2
     seed, crates = sys.argv[1], sys.argv[2:]
-    trials, total, holes = Trials(), [0, 0, 0], 0
-    crates = crates or [crate for crate in trials.prover.over if trials.prover.library(crate).is_dir()]
+    prover, total, holes = Prover(), [0, 0, 0], 0
+    crates = crates or [crate for crate in prover.over if (ROOT / "crates" / crate / "out" / "incremental").is_dir()]
     with concurrent.futures.ThreadPoolExecutor(JOBS) as pool:
-        for crate, (*counts, proved) in zip(crates, pool.map(lambda one: try_crate(trials, one, seed), crates)):
+        for crate, (*counts, proved) in zip(crates, pool.map(lambda one: try_crate(prover, one, seed), crates)):
             total, holes = [a + b for a, b in zip(total, counts)], holes + len(proved)
             print(f"{crate}: {counts[0]} refused, {counts[1]} not typed, {counts[2]} with nothing to alter, {len(proved)} still proved", flush=True)
             for m in proved:

@@ -18,23 +18,23 @@ PAGES = ROOT / "docs" / "pages"
 CABIN = ROOT / "cabin"
 
 # page: where its definitions give a refusal its number, and how it is written there; TESTS is a routine's list of tests
-TESTS = r"\w+Tests"
+TESTS = r"\w+_tests"
 REFUSED = r"\b(?:Refused|Bad) (\d+)"
 LOOKED = ("settings/specs/History", r"\bL\.Refused (\d+)")  # where a version is named
 CASES = {
-    "advance": [LOOKED, ("kepler/specs/Kepler", TESTS), ("kepler/specs/Kepler", r"^resultRow .*= positionComponents (9)"), ("solve/specs/Answers", r"^advancedNumber .*= (7|8|29)$")],
-    "transfer-velocity": [LOOKED, ("lambert/specs/Lambert", TESTS), ("lambert/specs/Lambert", r"^resultRow .*= velocityComponents (9)"), ("solve/specs/Answers", r"^transferredNumber .*= (7|8|29)$")],
-    "transfer-time": [("theta/specs/Theta", TESTS), ("theta/specs/Theta", r"^transferTimeNumber Too\w+ = ([78])")],
+    "advance": [LOOKED, ("kepler/specs/Kepler", TESTS), ("kepler/specs/Kepler", r"^result_row .*= position_components (9)"), ("solve/specs/Answers", r"^advanced_number .*= (7|8|29)$")],
+    "transfer-velocity": [LOOKED, ("lambert/specs/Lambert", TESTS), ("lambert/specs/Lambert", r"^result_row .*= velocity_components (9)"), ("solve/specs/Answers", r"^transferred_number .*= (7|8|29)$")],
+    "transfer-time": [("theta/specs/Theta", TESTS), ("theta/specs/Theta", r"^transfer_time_number Too\w+ = ([78])")],
     "apsides": [("apsides/specs/Apsides", TESTS)],
     # an advance without a limit is always finished, so that 29 does not come up
-    "burn": [("burn/specs/Burn", r"\bRefused (?!29)(\d+)"), ("kepler/specs/Kepler", TESTS), ("kepler/specs/Kepler", r"^resultRow .*= positionComponents (9)"), ("theta/specs/Theta", TESTS), ("apsides/specs/Apsides", TESTS)],
+    "burn": [("burn/specs/Burn", r"\bRefused (?!29)(\d+)"), ("kepler/specs/Kepler", TESTS), ("kepler/specs/Kepler", r"^result_row .*= position_components (9)"), ("theta/specs/Theta", TESTS), ("apsides/specs/Apsides", TESTS)],
     "sight": [("sight/specs/Sight", TESTS), ("wheel/specs/Wheel", REFUSED)],
-    "settings": [("settings/specs/Allowed", TESTS), ("settings/specs/Allowed", r"^refusalBy Passed \w+ = cond \S+ \d+ \w+\) (\d+) 0"), ("settings/specs/History", REFUSED)],
+    "settings": [("settings/specs/Allowed", TESTS), ("settings/specs/Allowed", r"^refusal_by Passed \w+ = cond \S+ \d+ \w+\) (\d+) 0"), ("settings/specs/History", REFUSED)],
     "root": [("root/specs/Root", REFUSED)],
     "series": [("series/specs/Series", REFUSED)],
     "trial": [("iterator/specs/Single", REFUSED)],
     "writer": [("writer/specs/Write", REFUSED)],
-    "replay": [("replay/specs/Replay", REFUSED), ("flight/specs/Flight", REFUSED), ("flight/specs/Flight", r"velocityComponents (4)"), ("solve/specs/Answers", r"^advancedNumber .*= (7|29)$")],
+    "replay": [("replay/specs/Replay", REFUSED), ("flight/specs/Flight", REFUSED), ("flight/specs/Flight", r"velocity_components (4)"), ("solve/specs/Answers", r"^advanced_number .*= (7|29)$")],
     "reader": [("session/specs/Decode", REFUSED), ("session/specs/Offset", REFUSED), ("session/specs/Read", REFUSED)],
     "listing": [("session/specs/Decode", REFUSED), ("session/specs/Offset", REFUSED), ("session/specs/Read", REFUSED), ("text/specs/Text", REFUSED)],
     "stream": [("session/specs/Decode", REFUSED), ("session/specs/Offset", REFUSED), ("stream/specs/Stream", REFUSED)],
@@ -55,7 +55,7 @@ def rows_of(name):
     while left:
         one = left.pop()
         seen.add(one)
-        rows.update(re.findall(r"\b(?:entry|\w+Components) (\d+)", known[one]))
+        rows.update(re.findall(r"\b(?:entry|\w+_components) (\d+)", known[one]))
         left += [n for n in re.findall(r"\w+", known[one]) if n in known and n not in seen]
     return rows
 

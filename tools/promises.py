@@ -1,6 +1,7 @@
 #!/usr/bin/env python3
 """Every routine that others call keeps its promise on paper: it has no `requires`, it has an `ensures`, and
-docs/PROMISES.md has a row for it, whose definition and must-fail edits are there. An edit alters what the routine runs,
+docs/PROMISES.md has a row for it, whose definition and must-fail edits are there. The library for C exports what cabin.h
+declares, and each export has the clauses of the routine of its name and calls that. An edit alters what the routine runs,
 every routine has one but those that the page excepts, and every edit has a row. Each law of that page stands in the proofs
 that its row names. Prints each that does not, and ends with 1 if there is one."""
 import functools
@@ -12,6 +13,7 @@ from edits import FUNCTION, Edit
 
 ROOT = pathlib.Path(__file__).resolve().parent.parent
 PAGE = ROOT / "docs" / "PROMISES.md"
+EXPORTS = ROOT / "crates" / "cabin"  # the library for C
 
 
 def contract(lines, start):
@@ -27,6 +29,7 @@ def contract(lines, start):
 def called_from_outside(crate):
     """(file, line, name, head) of each function that another crate can call."""
     face = (crate / "src" / "lib.rt").read_text()
+    handed_on = {f"{inner}::{name}" for inner, names in re.findall(r"^pub use (\S+)::(\w+|\{[^}]*\});", face, re.M) for name in re.findall(r"\w+", names)}
     for source in sorted(crate.glob("src/**/*.rt")):
         inner = "::".join(source.relative_to(crate / "src").with_suffix("").parts)
         open_module = inner == "lib" or re.search(rf"^pub mod {re.escape(inner)};", face, re.M)
@@ -36,8 +39,37 @@ def called_from_outside(crate):
             if not found:
                 continue
             name = found.group(1)
-            if open_module or re.search(rf"^pub use {re.escape(inner)}::{name};", face, re.M):
+            if open_module or f"{inner}::{name}" in handed_on:
                 yield source, number + 1, name, contract(lines, number)
+
+
+def routines():
+    """(crate, what it hands out) of each library."""
+    for crate in sorted((ROOT / "crates").iterdir()):
+        if (crate / "src" / "lib.rt").exists() and crate != EXPORTS:
+            yield from ((crate, *one) for one in called_from_outside(crate))
+
+
+def bare(text):
+    """The words of a text, however it is laid out."""
+    return re.sub(r"[\s,]+", " ", text).replace("( ", "(").replace(" )", ")").strip()
+
+
+def faults_of_exports():
+    """What the library for C exports otherwise than a crate has it, or cabin.h declares."""
+    code = (EXPORTS / "src" / "lib.rt").read_text()
+    given = {f"{crate.name}::{name}": bare(head.split("fn", 1)[1]) for crate, _, _, name, head in routines()}
+    exports = re.findall(r'^#\[unsafe\(no_mangle\)\]\npub extern "C" fn ((\w+)\((.*?)\) -> u32\n[^{}]*\{.*?)^\{\n(.*?)^\}', code, re.M | re.S)
+    for head, name, parameters, body in exports:
+        words = bare(" ".join(re.findall(r"(\w+):", parameters)))
+        call = re.fullmatch(r"(\w+::\w+)\((.*)\)", bare(body))
+        if not call or call[1].split("::")[1] != name or bare(call[2]) != words:
+            yield f"the library for C: {name} does more than to call the routine of its name with its own words"
+        elif given.get(call[1]) != bare(head + "{"):
+            yield f"the library for C: {name} has other words or clauses than {call[1]}"
+    declared = re.findall(r"^uint32_t (\w+)\(", (ROOT / "library" / "cabin.h").read_text(), re.M)
+    if sorted(declared) != sorted(name for _, name, _, _ in exports):
+        yield f"the library for C exports {len(exports)} routines, and cabin.h declares {len(declared)}, or others"
 
 
 def names_cited(page):
@@ -122,19 +154,16 @@ def faults_of_laws(page):
 def main():
     page = PAGE.read_text()
     rows = re.findall(r"^\| `(\w+)::(\w+)`", page, re.M)
-    faults, seen = [*faults_of_names(page), *faults_of_edits(page), *faults_of_laws(page)], set()
-    for crate in sorted((ROOT / "crates").iterdir()):
-        if not (crate / "src" / "lib.rt").exists():
-            continue
-        for source, number, name, head in called_from_outside(crate):
-            place = f"{source.relative_to(ROOT)}:{number} {crate.name}::{name}"
-            seen.add((crate.name, name))
-            if re.search(r"^\s*requires\b", head, re.M):
-                faults.append(f"{place} has a requires: a caller could break it")
-            if not re.search(r"^\s*ensures\b", head, re.M):
-                faults.append(f"{place} has no ensures: it promises nothing")
-            if (crate.name, name) not in rows:
-                faults.append(f"{place} has no row in docs/PROMISES.md")
+    faults, seen = [*faults_of_names(page), *faults_of_edits(page), *faults_of_laws(page), *faults_of_exports()], set()
+    for crate, source, number, name, head in routines():
+        place = f"{source.relative_to(ROOT)}:{number} {crate.name}::{name}"
+        seen.add((crate.name, name))
+        if re.search(r"^\s*requires\b", head, re.M):
+            faults.append(f"{place} has a requires: a caller could break it")
+        if not re.search(r"^\s*ensures\b", head, re.M):
+            faults.append(f"{place} has no ensures: it promises nothing")
+        if (crate.name, name) not in rows:
+            faults.append(f"{place} has no row in docs/PROMISES.md")
     for crate, name in rows:
         if (crate, name) not in seen:
             faults.append(f"docs/PROMISES.md has a row for {crate}::{name}, and no such routine is public")

@@ -43,7 +43,7 @@ def faults_of_picture():
     """Where the picture differs from crates.txt."""
     picture = re.search(r"^```\n(.*?)^```$", (ROOT / "docs" / "ARCHITECTURE.md").read_text(), re.M | re.S)[1]
     lines = [line[:CRATES_WIDTH].split() for line in picture.split("\n")]
-    known = dict(re.findall(r"^(\w+):(.*)$", (ROOT / "crates.txt").read_text(), re.M))
+    known = dict(re.findall(r"^(\w+)[^:\n]*:(.*)$", (ROOT / "crates.txt").read_text(), re.M))
     height = {}
     for number, line in enumerate(lines):
         for crate in line:

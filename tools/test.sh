@@ -7,6 +7,7 @@ home=$(cd "$(dirname "${BASH_SOURCE[0]}")/.." && pwd -P)
 cd "$home"
 
 passed=0 failed=0 whole=no ends='' beside=''
+declare -A digests # of the crates that programs and the library are built of
 at_end=verdict
 
 # What became of a part, as a line of the file that the verdict is made of.
@@ -32,27 +33,50 @@ fetch() {
     (need_cc) || true
 }
 
-# From nothing, with the prover's own count; its lines are printed as they come, and the count is kept for the end. What
-# was proved is made ready, and from then on nothing is built: a part that lacks its program fails at once.
+# The kit's own gate, over the checkout as it stands, with its own count: its lines are printed as they come, and the count is
+# kept for the end. What it built is made ready, and from then on nothing is built: a part that lacks its program fails at
+# once. The library for C `rt ci` proves and does not build. Where the checkout had no libraries of earlier runs, those that
+# `rt ci` left are of the files as they are, and it is built over them.
 proofs() {
-    local log=$keep/gate.log began=$SECONDS
+    local log=$keep/gate.log began=$SECONDS status=0 builds=no
+    compgen -G 'crates/*/out/rlib' >/dev/null && builds=yes
+    for one in crates/*/src/main.rt crates/cabin/src/lib.rt; do
+        one=$(basename "${one%/src/*}")
+        digests[$one]=$(digest "$one") || true
+    done
     printf '\n== proofs, programs, wrong builds\n'
-    bash tools/proofs.sh 2>&1 | tee "$log" | sed -u '/^[0-9]* passed, [0-9]* failed$/d' || true
+    touch "$keep/began"
+    PYTHONUNBUFFERED=1 rt ci 2>&1 | tee "$log" | sed -u '/^[0-9]* passed, [0-9]* failed$/d' || status=$?
     if [[ $(tail -n 1 "$log") =~ ^([0-9]+)\ passed,\ ([0-9]+)\ failed$ ]]; then
         passed=${BASH_REMATCH[1]} failed=${BASH_REMATCH[2]}
+        [ "$status" -eq 0 ] || [ "$failed" -gt 0 ] || ended FAILED "proofs, which ended with status $status"
     else
         ended FAILED "proofs, which gave no count"
     fi
-    printf -- '-- %d s\n\n== programs, the library and the second program made ready\n' $((SECONDS - began))
+    printf -- '-- %d s\n' $((SECONDS - began))
+    part "wrong builds, each refused for a fact" refused_for_facts "$log"
+    printf '\n== programs, the library and the second program made ready\n'
     began=$SECONDS
     wait "$fetching" || true
-    for main in crates/*/src/main.rt; do
-        ./cabin ready "$(basename "${main%/src/main.rt}")" >/dev/null || true
-    done
-    mkdir -p target/library && ./cabin library target/library || true
+    [ "$builds" = yes ] || python3 tools/archive.py cabin >"$keep/cabin.log" 2>&1 || tail -n 20 "$keep/cabin.log"
+    for one in "${!digests[@]}"; do make_ready "$one"; done
+    mkdir -p target/library && CABIN_BUILD=$builds ./cabin library target/library || true
     make -s -C second || true
     printf -- '-- %d s\n' $((SECONDS - began))
     export CABIN_BUILD=no
+}
+
+# Puts what was just built of a crate in its place, unless a file of it has changed meanwhile.
+make_ready() { # CRATE
+    if [ "crates/$1/out/$(built_of "$1")" -nt "$keep/began" ] && [ "$(digest "$1")" = "${digests[$1]}" ]; then
+        (keep_built "$1" "${digests[$1]}") || true
+    fi
+}
+
+# Whether `rt ci` tried each wrong build, and refused it because a fact fails: it passes over one that it cannot apply, compile or
+# read, which it calls bad, and refuses one also where a proof only names what is no longer there.
+refused_for_facts() { # LOG
+    ! grep -E '^rt: .*: BAD EDIT: |^rt: must-fail .*\(only because a proof file names |^rt: ok;.*, [1-9][0-9]* bad' "$1"
 }
 
 # The programs against the second program. They go on beside the other parts, since each of the two keeps little more than one
@@ -94,7 +118,6 @@ ends=$keep/ends
 : >"$ends"
 fetch >"$keep/fetch.log" 2>&1 </dev/null &
 fetching=$!
-part "layout" rt fmt --check
 part "promises" python3 tools/promises.py
 part "rules" python3 tools/rules.py
 part "table of sines" python3 tools/sines.py --check

@@ -23,14 +23,7 @@ fn give_time(a: TransferTime, out: &mut [f64]) -> u32
     }
 }
 
-#[unsafe(no_mangle)]
-pub extern "C" fn cabin_transfer_time(
-    mu: f64,
-    state: &[f64],
-    sin: f64,
-    cos: f64,
-    out: &mut [f64],
-) -> u32
+pub fn cabin_transfer_time(mu: f64, state: &[f64], sin: f64, cos: f64, out: &mut [f64]) -> u32
     ensures { GivenNumbers (transfer_time_in mu state.now sin cos out.old) out.old out.new result }
 {
     if state.len() < 6 {
@@ -65,8 +58,7 @@ fn give_apsides(a: Apsides, out: &mut [f64], whole: &mut [u64]) -> u32
     }
 }
 
-#[unsafe(no_mangle)]
-pub extern "C" fn cabin_apsides(mu: f64, state: &[f64], out: &mut [f64], whole: &mut [u64]) -> u32
+pub fn cabin_apsides(mu: f64, state: &[f64], out: &mut [f64], whole: &mut [u64]) -> u32
     ensures { Given (apsides_in mu state.now out.old whole.old) out.old whole.old out.new whole.new result }
 {
     if state.len() < 6 {

@@ -21,8 +21,7 @@ fn give_wheel(a: Elevation, out: &mut [f64]) -> u32
     }
 }
 
-#[unsafe(no_mangle)]
-pub extern "C" fn cabin_wheel(e: u64, out: &mut [f64]) -> u32
+pub fn cabin_wheel(e: u64, out: &mut [f64]) -> u32
     ensures { GivenNumbers (wheel_in e out.old) out.old out.new result }
 {
     if out.len() < 2 {
@@ -47,8 +46,7 @@ fn give_sight(a: Sight, out: &mut [f64]) -> u32
     }
 }
 
-#[unsafe(no_mangle)]
-pub extern "C" fn cabin_sight(
+pub fn cabin_sight(
     active: &[f64],
     passive: &[f64],
     e: u64,

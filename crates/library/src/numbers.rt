@@ -24,22 +24,19 @@ fn give_one(a: Answer, out: &mut [f64]) -> u32
     }
 }
 
-#[unsafe(no_mangle)]
-pub extern "C" fn cabin_root(x: f64, out: &mut [f64]) -> u32
+pub fn cabin_root(x: f64, out: &mut [f64]) -> u32
     ensures { GivenNumbers (one_in (root_answer x) out.old) out.old out.new result }
 {
     give_one(root::root(x), out)
 }
 
-#[unsafe(no_mangle)]
-pub extern "C" fn cabin_c(xi: f64, out: &mut [f64]) -> u32
+pub fn cabin_c(xi: f64, out: &mut [f64]) -> u32
     ensures { GivenNumbers (one_in (c_answer xi) out.old) out.old out.new result }
 {
     give_one(series::c(xi), out)
 }
 
-#[unsafe(no_mangle)]
-pub extern "C" fn cabin_s(xi: f64, out: &mut [f64]) -> u32
+pub fn cabin_s(xi: f64, out: &mut [f64]) -> u32
     ensures { GivenNumbers (one_in (s_answer xi) out.old) out.old out.new result }
 {
     give_one(series::s(xi), out)

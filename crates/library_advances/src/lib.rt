@@ -35,8 +35,7 @@ fn give_advance(a: Advanced, out: &mut [f64], whole: &mut [u64]) -> u32
     }
 }
 
-#[unsafe(no_mangle)]
-pub extern "C" fn cabin_advance_within(
+pub fn cabin_advance_within(
     mu: f64,
     state: &[f64],
     t: f64,
@@ -68,8 +67,7 @@ pub extern "C" fn cabin_advance_within(
     give_advance(solve::advance_limited(mu, s, t, limit, g), out, whole)
 }
 
-#[unsafe(no_mangle)]
-pub extern "C" fn cabin_advance_by(
+pub fn cabin_advance_by(
     used: &[u8],
     k: u64,
     mu: f64,

@@ -31,8 +31,7 @@ fn give_burn(a: Burn, out: &mut [f64], whole: &mut [u64]) -> u32
     }
 }
 
-#[unsafe(no_mangle)]
-pub extern "C" fn cabin_constant_height(
+pub fn cabin_constant_height(
     body: u64,
     radius: f64,
     mu: f64,

@@ -7,8 +7,7 @@ ghost use Rattle.library_desk.specs.Asked.{ask_in, ask_after};
 
 use library_lines::give_made;
 
-#[unsafe(no_mangle)]
-pub extern "C" fn cabin_ask(used: &[u8], line: &[u8], answer: &mut [u8], whole: &mut [u64]) -> u32
+pub fn cabin_ask(used: &[u8], line: &[u8], answer: &mut [u8], whole: &mut [u64]) -> u32
     ensures { (GivenWholes (ask_in used.now line.now answer.old whole.old) whole.old whole.new result) × (answer.new ≡ ask_after used.now line.now answer.old whole.old) }
 {
     if whole.len() < 1 {

@@ -27,8 +27,7 @@ pub fn give_made(a: Made, whole: &mut [u64]) -> u32
     }
 }
 
-#[unsafe(no_mangle)]
-pub extern "C" fn cabin_heading(line: &mut [u8], whole: &mut [u64]) -> u32
+pub fn cabin_heading(line: &mut [u8], whole: &mut [u64]) -> u32
     ensures { (GivenWholes (line_in line_room heading_text line.old whole.old) whole.old whole.new result) × (line.new ≡ bytes_after (line_in line_room heading_text line.old whole.old) (in_front heading_text line.old) line.old) }
 {
     if whole.len() < 1 {
@@ -37,8 +36,7 @@ pub extern "C" fn cabin_heading(line: &mut [u8], whole: &mut [u64]) -> u32
     give_made(lines::heading(line), whole)
 }
 
-#[unsafe(no_mangle)]
-pub extern "C" fn cabin_refused_line(number: u8, at: u64, line: &mut [u8], whole: &mut [u64]) -> u32
+pub fn cabin_refused_line(number: u8, at: u64, line: &mut [u8], whole: &mut [u64]) -> u32
     ensures { (GivenWholes (line_in line_room (refused_text number at) line.old whole.old) whole.old whole.new result) × (line.new ≡ bytes_after (line_in line_room (refused_text number at) line.old whole.old) (in_front (refused_text number at) line.old) line.old) }
 {
     if whole.len() < 1 {
@@ -47,8 +45,7 @@ pub extern "C" fn cabin_refused_line(number: u8, at: u64, line: &mut [u8], whole
     give_made(lines::refused_line(line, number, at), whole)
 }
 
-#[unsafe(no_mangle)]
-pub extern "C" fn cabin_record_line(
+pub fn cabin_record_line(
     kind: u64,
     vehicle: u8,
     time: i64,

@@ -108,14 +108,7 @@ fn give_reading(a: Reading, out: &mut [f64], whole: &mut [u64]) -> u32
     }
 }
 
-#[unsafe(no_mangle)]
-pub extern "C" fn cabin_read(
-    session: &[u8],
-    at: usize,
-    offset: i16,
-    out: &mut [f64],
-    whole: &mut [u64],
-) -> u32
+pub fn cabin_read(session: &[u8], at: usize, offset: i16, out: &mut [f64], whole: &mut [u64]) -> u32
     ensures { Given (read_in session.now (record { at = at; offset = offset }) out.old whole.old) out.old whole.old out.new whole.new result }
 {
     if out.len() < 6 {

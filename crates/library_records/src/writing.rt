@@ -64,8 +64,7 @@ fn give_written(a: Written, whole: &mut [u64]) -> u32
     }
 }
 
-#[unsafe(no_mangle)]
-pub extern "C" fn cabin_write(
+pub fn cabin_write(
     buf: &mut [u8],
     at: usize,
     kind: u64,
@@ -93,13 +92,7 @@ pub extern "C" fn cabin_write(
     give_written(writer::write(buf, at, r), whole)
 }
 
-#[unsafe(no_mangle)]
-pub extern "C" fn cabin_write_offset(
-    buf: &mut [u8],
-    at: usize,
-    minutes: i16,
-    whole: &mut [u64],
-) -> u32
+pub fn cabin_write_offset(buf: &mut [u8], at: usize, minutes: i16, whole: &mut [u64]) -> u32
     ensures { (GivenWholes (offset_in buf.old at minutes whole.old) whole.old whole.new result) × (buf.new ≡ bytes_after (offset_in buf.old at minutes whole.old) (written buf.old at 8 (offset_bytes minutes)) buf.old) }
 {
     if whole.len() < 1 {

@@ -46,8 +46,7 @@ fn give_answer(a: Answer, p: Replay, states: &mut [f64], held: &mut [u64]) -> u3
     }
 }
 
-#[unsafe(no_mangle)]
-pub extern "C" fn cabin_replay_step(
+pub fn cabin_replay_step(
     earth: f64,
     moon: f64,
     kind: u64,

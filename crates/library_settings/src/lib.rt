@@ -24,8 +24,7 @@ fn give_looked(a: Looked, out: &mut [f64], whole: &mut [u64]) -> u32
     }
 }
 
-#[unsafe(no_mangle)]
-pub extern "C" fn cabin_look_up(used: &[u8], k: u64, out: &mut [f64], whole: &mut [u64]) -> u32
+pub fn cabin_look_up(used: &[u8], k: u64, out: &mut [f64], whole: &mut [u64]) -> u32
     ensures { Given (look_in used.now k out.old whole.old) out.old whole.old out.new whole.new result }
 {
     if out.len() < 4 {
@@ -51,8 +50,7 @@ fn give_stored(a: Stored, whole: &mut [u64]) -> u32
     }
 }
 
-#[unsafe(no_mangle)]
-pub extern "C" fn cabin_store(
+pub fn cabin_store(
     buf: &mut [u8],
     used: usize,
     body: u64,
@@ -77,8 +75,7 @@ pub extern "C" fn cabin_store(
     give_stored(settings::store(buf, used, x), whole)
 }
 
-#[unsafe(no_mangle)]
-pub extern "C" fn cabin_go_back(buf: &mut [u8], used: usize, k: u64, whole: &mut [u64]) -> u32
+pub fn cabin_go_back(buf: &mut [u8], used: usize, k: u64, whole: &mut [u64]) -> u32
     ensures { (GivenWholes (back_in buf.old used k whole.old) whole.old whole.new result) × (buf.new ≡ back_after buf.old used k whole.old) }
 {
     if whole.len() < 2 {

@@ -30,8 +30,7 @@ fn give_trial(a: Tried, whole: &mut [u64]) -> u32
     }
 }
 
-#[unsafe(no_mangle)]
-pub extern "C" fn cabin_trial(
+pub fn cabin_trial(
     asked: f64,
     lo: i64,
     hi: i64,
@@ -79,14 +78,7 @@ fn give_advance(a: Advanced, out: &mut [f64], whole: &mut [u64]) -> u32
     }
 }
 
-#[unsafe(no_mangle)]
-pub extern "C" fn cabin_advance(
-    mu: f64,
-    state: &[f64],
-    t: f64,
-    out: &mut [f64],
-    whole: &mut [u64],
-) -> u32
+pub fn cabin_advance(mu: f64, state: &[f64], t: f64, out: &mut [f64], whole: &mut [u64]) -> u32
     ensures { Given (advance_in mu state.now t out.old whole.old) out.old whole.old out.new whole.new result }
 {
     if state.len() < 6 {
@@ -123,8 +115,7 @@ fn give_transfer(a: Transferred, out: &mut [f64], whole: &mut [u64]) -> u32
     }
 }
 
-#[unsafe(no_mangle)]
-pub extern "C" fn cabin_transfer_velocity(
+pub fn cabin_transfer_velocity(
     mu: f64,
     first: &[f64],
     second: &[f64],

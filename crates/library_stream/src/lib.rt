@@ -70,8 +70,7 @@ fn give_step(a: Step, out: &mut [f64], whole: &mut [u64]) -> u32
     }
 }
 
-#[unsafe(no_mangle)]
-pub extern "C" fn cabin_take_next(
+pub fn cabin_take_next(
     at: usize,
     offset: i16,
     kept: usize,

@@ -52,8 +52,7 @@ fn ends_short(first: &[f64], second: &[f64], way: u64, normal: &[f64]) -> bool
     normal.len() < normal_size(way)
 }
 
-#[unsafe(no_mangle)]
-pub extern "C" fn cabin_transfer_velocity_within(
+pub fn cabin_transfer_velocity_within(
     mu: f64,
     first: &[f64],
     second: &[f64],
@@ -97,8 +96,7 @@ pub extern "C" fn cabin_transfer_velocity_within(
     )
 }
 
-#[unsafe(no_mangle)]
-pub extern "C" fn cabin_transfer_velocity_by(
+pub fn cabin_transfer_velocity_by(
     used: &[u8],
     k: u64,
     mu: f64,
