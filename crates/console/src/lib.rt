@@ -39,7 +39,9 @@ fn text(message: &[u8]) -> &str {
 }
 
 // Writes a message to standard error. Where that cannot be written there is nobody left to tell.
-pub fn say(rt: &impl Eprint, message: &[u8]) {
+pub fn say(rt: &impl Eprint, message: &[u8])
+    ensures { Unit {0} }
+{
     let _ = rt.eprint(text(message));
 }
 
@@ -52,7 +54,9 @@ fn reason(written: &str) -> &str {
 }
 
 // Writes a line to standard error: what failed, a colon and why.
-pub fn fail(rt: &impl Eprint, what: &[u8], why: Error) {
+pub fn fail(rt: &impl Eprint, what: &[u8], why: Error)
+    ensures { Unit {0} }
+{
     let mut to = Cursor::new([0u8; 128]);
     let _ = write!(to, "{why}");
     let n = to.position().min(128) as usize;
@@ -142,7 +146,9 @@ pub fn read_some<R: Read>(rt: &impl Eprint, from: &mut R, buf: &mut [u8]) -> Inp
 }
 
 // How many words the command has, with the program's name.
-pub fn arg_count(rt: &impl Env) -> usize {
+pub fn arg_count(rt: &impl Env) -> usize
+    ensures { Unit {0} }
+{
     for i in 0..usize::MAX {
         if let Err(FillError::NotPresent) = rt.arg(i, &mut []) {
             return i;

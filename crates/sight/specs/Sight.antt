@@ -26,7 +26,7 @@ use Rattle.sight.specs.declared.Sight.TheVariants.{Crossed, Refused}
 abbrev pub elevated_of : Direction → Vector → Vector → Vector
 elevated_of d h v = sum_of (scaled_of d.cosine h) (scaled_of d.sine v)
 
--- b = A·u, radicand = b·b − (A-as-A − P-as-P)
+-- b = A·u, radicand = b·b − (A·A − P·P)
 abbrev pub line_of : Vector → Vector → Vector → Line
 line_of a p u = let b = dot_of a u in record { u = u; b = b; radicand = b ⊗ b ⊖ (dot_of a a ⊖ dot_of p p) }
 

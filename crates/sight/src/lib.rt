@@ -40,7 +40,7 @@ fn elevated(d: Direction, h: Vector, v: Vector) -> Vector
     vector::sum(vector::scaled(d.cosine, h), vector::scaled(d.sine, v))
 }
 
-// b = A·u, radicand = b·b − (A.A − P.P).
+// b = A·u, radicand = b·b − (A·A − P·P).
 fn line_of(a: Vector, p: Vector, u: Vector) -> Line
     ensures { result ≡ line_of a p u }
 {
