@@ -184,6 +184,14 @@ run() { # NAME [WORD..]
     "${program[$1]}" "${@:2}" || { say "'$1' ended with status $?"; return 2; }
 }
 
+# A path by which a program can open a file: `path`. The programs take names as UTF-8 alone, so that a file with another
+# name is opened here and handed on by its descriptor.
+named() { # FILE
+    local held
+    path=$1
+    iconv -f UTF-8 -t UTF-8 <<<"$1" >/dev/null 2>&1 || { exec {held}<"$1" && path=/dev/fd/$held; }
+}
+
 # Runs a program that is ready and passes its lines on as they come. Answers 1 where the last one is a refusal.
 run_lines() { # NAME [WORD..]
     run "$@" | {

@@ -1,0 +1,16 @@
+-- By the tests. Assumes nothing.
+use borrow.Author.Tests.{eq-eqb, ne_eqb}
+use Rattle.cases.specs.Cases.{way_from}
+use Rattle.cases.proofs.way_from.Goals as goal
+
+pub returns-then-k-eq0 : goal.returns-then-k-eq0
+unfolding way_from
+returns-then-k-eq0 c = rw (eq-eqb _ _ c.if-k-eq0.true)
+
+pub returns-then-k-eq1 : goal.returns-then-k-eq1
+unfolding way_from
+returns-then-k-eq1 c = rw (ne_eqb _ _ c.if-k-eq0.false, eq-eqb _ _ c.if-k-eq1.true)
+
+pub returns : goal.returns
+unfolding way_from
+returns c = rw (ne_eqb _ _ c.if-k-eq0.false, ne_eqb _ _ c.if-k-eq1.false, c.vector_in.ensures)
