@@ -3,10 +3,10 @@
 // worked out of one state.
 #![tactic(auto)]
 
-mod conic;
 mod looks;
 mod numbers;
+mod orbits;
 
-pub use conic::{cabin_apsides, cabin_transfer_time};
 pub use looks::{cabin_sight, cabin_wheel};
 pub use numbers::{cabin_c, cabin_root, cabin_s};
+pub use orbits::{cabin_apsides, cabin_transfer_time};

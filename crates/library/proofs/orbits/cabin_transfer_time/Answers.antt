@@ -1,7 +1,7 @@
 -- Short or not, and then the time. Assumes nothing.
 use borrow.Author.Tests.{lt-leb, le-leb}
 use Rattle.lent.proofs.Gives.{short-numbers, enough-numbers}
-use Rattle.library.proofs.conic.cabin_transfer_time.Goals as goal
+use Rattle.library.proofs.orbits.cabin_transfer_time.Goals as goal
 
 pub returns-then-state-lt6 : goal.returns-then-state-lt6
 returns-then-state-lt6 c = rw (lt-leb _ _ c.if-state-lt6.true) (short-numbers _)

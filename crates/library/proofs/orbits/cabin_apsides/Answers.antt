@@ -1,7 +1,7 @@
 -- Short or not, and then the apsides. Assumes nothing.
 use borrow.Author.Tests.{lt-leb, le-leb}
 use Rattle.lent.proofs.Gives.{short, enough}
-use Rattle.library.proofs.conic.cabin_apsides.Goals as goal
+use Rattle.library.proofs.orbits.cabin_apsides.Goals as goal
 
 pub returns-then-state-lt6 : goal.returns-then-state-lt6
 returns-then-state-lt6 c = rw (lt-leb _ _ c.if-state-lt6.true) (short _)

@@ -2,7 +2,7 @@
 use native.Mathlib.Omega.{arith}
 use Rattle.library.specs.Answers.{transfer_time_told}
 use Rattle.lent.proofs.Gives.{put-numbers, left-numbers}
-use Rattle.library.proofs.conic.give_time.Goals as goal
+use Rattle.library.proofs.orbits.give_time.Goals as goal
 
 pub returns-in-Time : goal.returns-in-Time
 unfolding transfer_time_told
