@@ -1,0 +1,25 @@
+-- By the case of the answer. Assumes nothing.
+use native.Mathlib.Omega.{arith}
+use Rattle.library_transfers.specs.Transfers.{transferred_within_told}
+use Rattle.lent.proofs.Gives.{put, left}
+use Rattle.library_transfers.proofs.give_transfer.Goals as goal
+
+pub returns-in-Found : goal.returns-in-Found
+unfolding transferred_within_told
+returns-in-Found c = rw c.in-Found.is (put c.put_numbers.ensures (rw (c.n_of-n.ensures, c.grade_number-g.ensures) at c.put_wholes.ensures) (omega arith, omega arith) (omega arith, omega arith))
+
+pub returns-in-TooLong : goal.returns-in-TooLong
+unfolding transferred_within_told
+returns-in-TooLong c = rw c.in-TooLong.is left
+
+pub returns-in-TooShort : goal.returns-in-TooShort
+unfolding transferred_within_told
+returns-in-TooShort c = rw c.in-TooShort.is left
+
+pub returns-in-NotFinished : goal.returns-in-NotFinished
+unfolding transferred_within_told
+returns-in-NotFinished c = rw c.in-NotFinished.is (put c.put_times.ensures c.put_words.ensures (omega arith, omega arith) (omega arith, omega arith))
+
+pub returns-in-Refused : goal.returns-in-Refused
+unfolding transferred_within_told
+returns-in-Refused c = rw c.in-Refused.is left
