@@ -577,16 +577,18 @@ def _():
 @case("interrupted at any point: 0 or 1 only where the report was made")
 def _():
     with room() as (folder, results):
-        made(folder, {f"a/{k}": session(1, k) for k in range(6)})
-        ends = []
-        for k in range(10):
+        made(folder, {f"a/{k}": session(1, k) for k in range(60)})
+        began = time.monotonic()
+        hold(night(folder, "--out", results), 0, "^1 cabin, 60 sessions: 60 passed")
+        whole, ends = time.monotonic() - began, []
+        for k in range(20):
             shutil.rmtree(results, ignore_errors=True)
             run = subprocess.Popen([ROOT / "cabin", "night", folder, "--out", results], stdout=subprocess.PIPE, stderr=subprocess.PIPE, text=True, start_new_session=True)
-            time.sleep(0.06 * k)
+            time.sleep(whole * k / 20)
             with contextlib.suppress(ProcessLookupError):
                 os.killpg(run.pid, signal.SIGINT)
             wrote, said = run.communicate(timeout=60)
-            assert run.returncode not in (0, 1) or "6 passed" in wrote, (run.returncode, said)
+            assert run.returncode not in (0, 1) or "60 passed" in wrote, (run.returncode, said)
             ends.append(run.returncode)
         assert 2 in ends, ends
 
