@@ -577,18 +577,18 @@ def _():
 @case("interrupted at any point: 0 or 1 only where the report was made")
 def _():
     with room() as (folder, results):
-        made(folder, {f"a/{k}": session(1, k) for k in range(60)})
+        made(folder, {f"a/{k}": session(1, k) for k in range(100)})
         began = time.monotonic()
-        hold(night(folder, "--out", results), 0, "^1 cabin, 60 sessions: 60 passed")
-        whole, ends = time.monotonic() - began, []
-        for k in range(20):
+        hold(night(folder, "--out", results), 0, "^1 cabin, 100 sessions: 100 passed")
+        step, ends = (time.monotonic() - began) / 10, []
+        while 0 not in ends and len(ends) < 60:  # each a step later, until a run ends by itself
             shutil.rmtree(results, ignore_errors=True)
             run = subprocess.Popen([ROOT / "cabin", "night", folder, "--out", results], stdout=subprocess.PIPE, stderr=subprocess.PIPE, text=True, start_new_session=True)
-            time.sleep(whole * k / 20)
+            time.sleep(step * len(ends))
             with contextlib.suppress(ProcessLookupError):
                 os.killpg(run.pid, signal.SIGINT)
             wrote, said = run.communicate(timeout=60)
-            assert run.returncode not in (0, 1) or "60 passed" in wrote, (run.returncode, said)
+            assert run.returncode not in (0, 1) or "100 passed" in wrote, (run.returncode, said)
             ends.append(run.returncode)
         assert 2 in ends, ends
 
