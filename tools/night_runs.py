@@ -578,19 +578,20 @@ def _():
 def _():
     with room() as (folder, results):
         made(folder, {f"a/{k}": session(1, k) for k in range(100)})
-        began = time.monotonic()
-        hold(night(folder, "--out", results), 0, "^1 cabin, 100 sessions: 100 passed")
-        step, ends = (time.monotonic() - began) / 10, []
-        while 0 not in ends and len(ends) < 60:  # each a step later, until a run ends by itself
+        ends = []
+        for k in range(11):
             shutil.rmtree(results, ignore_errors=True)
             run = subprocess.Popen([ROOT / "cabin", "night", folder, "--out", results], stdout=subprocess.PIPE, stderr=subprocess.PIPE, text=True, start_new_session=True)
-            time.sleep(step * len(ends))
+            if k < 10:
+                time.sleep(0.06 * k)
+            else:  # while its sessions run
+                wait_for(lambda: any(results.rglob("*.txt")))
             with contextlib.suppress(ProcessLookupError):
                 os.killpg(run.pid, signal.SIGINT)
             wrote, said = run.communicate(timeout=60)
             assert run.returncode not in (0, 1) or "100 passed" in wrote, (run.returncode, said)
             ends.append(run.returncode)
-        assert 2 in ends, ends
+        assert ends[-1] == 2, ends
 
 
 def alive(pid):
