@@ -11,6 +11,7 @@ import re
 import resource
 import select
 import shutil
+import signal
 import struct
 import subprocess
 import sys
@@ -20,6 +21,9 @@ import tty
 
 sys.path.insert(0, str(pathlib.Path(__file__).parent))
 from make_sample import listing, night, sample, text
+
+# A start in the background leaves SIGINT ignored, and what is started here would inherit that.
+signal.signal(signal.SIGINT, signal.default_int_handler)
 
 ROOT = pathlib.Path(__file__).resolve().parent.parent
 SAMPLE = ROOT / "samples" / "session.bin"

@@ -36,6 +36,9 @@ from night.verdict import Event, Mark
 from make_sample import BURN, DAY, HOUR, MARK, MINUTE, MOON, STATE, circling, flown, offset, record
 from settings import record as version
 
+# A start in the background leaves SIGINT ignored, and what is started here would inherit that.
+signal.signal(signal.SIGINT, signal.default_int_handler)
+
 ROOT = pathlib.Path(__file__).resolve().parent.parent
 NIGHT = ROOT / "tools" / "night.py"
 SEED = int(os.environ.get("CABIN_SEED", time.time()))
