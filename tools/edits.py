@@ -1,7 +1,8 @@
 """A must-fail edit as its file has it: what it alters, and in which functions. `rt must-fail` and `rt ci` try them."""
 import re
 
-FUNCTION = re.compile(r'^(?:pub )?(?:extern "C" )?fn (\w+)(?:(?!^\}).)*?^\{\n(.*?)^\}\n', re.M | re.S)
+# a function or a method: its indent, its name and its body
+FUNCTION = re.compile(r'^( *)(?:pub )?(?:extern "C" )?fn (\w+)(?:[^\n]*\{|(?:(?!^\1\}).)*?^\1\{)\n(.*?)^\1\}\n', re.M | re.S)
 
 
 class Edit:
@@ -30,5 +31,5 @@ class Edit:
         for file, old, _ in self.pairs:
             text = (self.folder / file).read_text() if file and (self.folder / file).is_file() else ""
             at = text.find(old or "\0")
-            found.append({(file, f[1]) for f in FUNCTION.finditer(text) if f.start(2) <= at < f.end(2)})
+            found.append({(file, f[2]) for f in FUNCTION.finditer(text) if f.start(3) <= at < f.end(3)})
         return set().union(*found) if all(found) else set()

@@ -45,10 +45,10 @@ class Mutant:
 
     def __init__(self, crate, file, function, mutation):
         begin, end, self.new = mutation
-        self.file, self.begin, self.end = file, function.start(2) + begin, function.start(2) + end
+        self.file, self.begin, self.end = file, function.start(3) + begin, function.start(3) + end
         self.line = function.string.count("\n", 0, self.begin) + 1
         self.was = function.string.split("\n")[self.line - 1].strip()
-        self.symbol = "::".join([crate, *modules_of(file), function[1]])
+        self.symbol = "::".join([crate, *modules_of(file), function[2]])
 
 
 def chosen(crate, dice):
@@ -56,7 +56,7 @@ def chosen(crate, dice):
     mutants, none = [], 0
     for path in sorted((ROOT / "crates" / crate / "src").rglob("*.rt")):
         for function in FUNCTION.finditer(path.read_text()):
-            ways = list(mutations(function[2]))
+            ways = list(mutations(function[3]))
             none += not ways
             mutants += [Mutant(crate, str(path.relative_to(ROOT / "crates" / crate)), function, dice.choice(ways))] if ways else []
     return mutants, none

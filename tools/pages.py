@@ -19,17 +19,17 @@ CABIN = ROOT / "cabin"
 
 # page: where its definitions give a refusal its number, and how it is written there; TESTS is a routine's list of tests
 TESTS = r"\w+_tests"
-REFUSED = r"\b(?:Refused|Bad) (\d+)"
-LOOKED = ("settings/specs/History", r"\bL\.Refused (\d+)")  # where a version is named
+REFUSED = r"\b(?:Refused|Err) (\d+)"
+LOOKED = ("settings/specs/History", r"\bErr (23|30)")  # where a version is named
 CASES = {
     "advance": [LOOKED, ("kepler/specs/Kepler", TESTS), ("kepler/specs/Kepler", r"^result_row .*= position_components (9)"), ("solve/specs/Answers", r"^advanced_number .*= (7|8|29)$")],
     "transfer-velocity": [LOOKED, ("lambert/specs/Lambert", TESTS), ("lambert/specs/Lambert", r"^result_row .*= velocity_components (9)"), ("solve/specs/Answers", r"^transferred_number .*= (7|8|29)$")],
     "transfer-time": [("theta/specs/Theta", TESTS), ("theta/specs/Theta", r"^transfer_time_number Too\w+ = ([78])")],
     "apsides": [("apsides/specs/Apsides", TESTS)],
     # an advance without a limit is always finished, so that 29 does not come up
-    "burn": [("burn/specs/Burn", r"\bRefused (?!29)(\d+)"), ("kepler/specs/Kepler", TESTS), ("kepler/specs/Kepler", r"^result_row .*= position_components (9)"), ("theta/specs/Theta", TESTS), ("apsides/specs/Apsides", TESTS)],
+    "burn": [("burn/specs/Burn", r"\bErr (?!29)(\d+)"), ("kepler/specs/Kepler", TESTS), ("kepler/specs/Kepler", r"^result_row .*= position_components (9)"), ("theta/specs/Theta", TESTS), ("apsides/specs/Apsides", TESTS)],
     "sight": [("sight/specs/Sight", TESTS), ("wheel/specs/Wheel", REFUSED)],
-    "settings": [("settings/specs/Allowed", TESTS), ("settings/specs/Allowed", r"^refusal_by Passed \w+ = cond \S+ \d+ \w+\) (\d+) 0"), ("settings/specs/History", REFUSED)],
+    "settings": [("settings/specs/Allowed", TESTS), ("settings/specs/Allowed", r"^refusal_by .*\(Some (\d+)\)"), ("settings/specs/History", REFUSED)],
     "root": [("root/specs/Root", REFUSED)],
     "series": [("series/specs/Series", REFUSED)],
     "trial": [("iterator/specs/Single", REFUSED)],
@@ -41,9 +41,15 @@ CASES = {
 }
 
 
+def specs(name):
+    """A file of specs/ with each refusal's number in place of its case."""
+    numbers = dict(re.findall(r"^number_of Refusal\.(\w+) = (\d+)$", (ROOT / "crates" / "refusal" / "specs" / "Refusals.antt").read_text(), re.M))
+    return re.sub(r"\bRefusal\.(\w+)", lambda m: numbers.get(m[1], m[0]), (ROOT / "crates" / f"{name}.antt").read_text())
+
+
 def definitions_in(name):
     """name -> text, of each list of tests that a file of specs/ defines."""
-    text = (ROOT / "crates" / f"{name}.antt").read_text()
+    text = specs(name)
     return {m[1]: m[2] for m in re.finditer(r"^abbrev pub (\w+) : [^\n]*List Entry\n(.*?)(?=\n\n|\Z)", text, re.M | re.S)}
 
 
@@ -66,7 +72,7 @@ def numbers_defined(page):
         if pattern is TESTS:
             found |= rows_of(name)
         else:
-            found.update(re.findall(pattern, (ROOT / "crates" / f"{name}.antt").read_text(), re.M))
+            found.update(re.findall(pattern, specs(name), re.M))
     return found
 
 

@@ -34,7 +34,14 @@ def called_from_outside(crate):
         inner = "::".join(source.relative_to(crate / "src").with_suffix("").parts)
         open_module = inner == "lib" or re.search(rf"^pub mod {re.escape(inner)};", face, re.M)
         lines = source.read_text().split("\n")
+        operator = None  # of an impl of a trait of std: what its ghost member says that the method gives
         for number, line in enumerate(lines):
+            if line.startswith("}"):
+                operator = None
+            elif said := re.match(r"    ghost \w+_gives = (\{.*\});", line):
+                operator = said.group(1)
+            elif operator and (found := re.match(r"    fn (\w+)", line)):
+                yield source, number + 1, found.group(1), f"{line}\n        ensures {operator}"
             found = re.match(r"\s*pub (?:extern \"C\" )?fn (\w+)", line)
             if not found:
                 continue
@@ -104,7 +111,7 @@ def bodies(crate):
     found = {}
     for source in sorted((ROOT / "crates" / crate / "src").rglob("*.rt")):
         for function in FUNCTION.finditer(source.read_text()):
-            found[function[1]] = found.get(function[1], "") + function[2]
+            found[function[2]] = found.get(function[2], "") + function[3]
     return found
 
 

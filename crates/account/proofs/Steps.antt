@@ -1,4 +1,6 @@
 -- A line of pieces at the front of a buffer of 512 bytes, as a step. Assumes nothing.
+use Rattle.std.specs.Prelude.{Err, Ok}
+use Rattle.refusal.specs.declared.Refusal.TheVariants as Refusal
 use Prim.Native.Nat.{ℕ, ◌+◌, ◌≤◌}
 use native.Mathlib.Omega.{arith}
 use mathlib.Core.Path.{◌≡◌, refl, sym, ap, ◌∙◌}
@@ -13,7 +15,6 @@ use Rattle.text.proofs.Lays.{all_fit}
 use Rattle.replay.specs.declared.Replay.{Replay}
 use Rattle.account.specs.declared.Next.{Next}
 use Rattle.account.specs.declared.Told.{Told}
-use Rattle.account.specs.declared.Made.TheVariants as T
 use Rattle.account.specs.Account.{line_then, step_of, Stepped, Telling}
 
 pub made : {d e : List ℕ} {r : ℕ} (xs : List (List ℕ)) (next : Next) (p : Replay) → 512 ≤ length d → length (concat xs) ≤ 512 → Laid d 0 xs e r
@@ -39,21 +40,21 @@ nothing d next p = record { count = refl; after = refl; replay = refl; buffer = 
 abbrev told : ℕ → Next → Replay → Told
 told n next p = record { length = n; next = next; replay = p }
 
-pub tell-short : (mu : Mu) (s : List ℕ) (next : Next) (p : Replay) (d : List ℕ) → ltb (length d) 512 ≡ true → Telling mu s next p d d (T.Refused 15)
+pub tell-short : (mu : Mu) (s : List ℕ) (next : Next) (p : Replay) (d : List ℕ) → ltb (length d) 512 ≡ true → Telling mu s next p d d (Err Refusal.NoRoom)
 tell-short mu s next p d h =
     let t = step_of mu s next p in
     record {
-      answer = sym (ap (λ (b : Bool). cond b (T.Refused 15) (T.Line (record { length = length t.line; next = t.next; replay = t.replay }))) h);
+      answer = sym (ap (λ (b : Bool). cond b (Err Refusal.NoRoom) (Ok (record { length = length t.line; next = t.next; replay = t.replay }))) h);
       buffer = sym (ap (λ (b : Bool). cond b d (t.line ++ drop (length t.line) d)) h);
     }
 
 pub tell-long : (mu : Mu) (s : List ℕ) (next : Next) (p : Replay) {d e : List ℕ} {r : Told} → ltb (length d) 512 ≡ false → Stepped (step_of mu s next p) d e r
-    → Telling mu s next p d e (T.Line r)
+    → Telling mu s next p d e (Ok r)
 tell-long mu s next p {d} {e} {r} h f =
     let t = step_of mu s next p in
     let q : ◌≡◌ {A = Told} r (record { length = length t.line; next = t.next; replay = t.replay }) = same r (length t.line) t.next t.replay f.count f.after f.replay in
     record {
-      answer = ap T.Line q ∙ sym (ap (λ (b : Bool). cond b (T.Refused 15) (T.Line (record { length = length t.line; next = t.next; replay = t.replay }))) h);
+      answer = ap Ok q ∙ sym (ap (λ (b : Bool). cond b (Err Refusal.NoRoom) (Ok (record { length = length t.line; next = t.next; replay = t.replay }))) h);
       buffer = f.buffer ∙ sym (ap (λ (b : Bool). cond b d (t.line ++ drop (length t.line) d)) h);
     }
   where
@@ -65,10 +66,10 @@ pub record Inside (mu : Mu) (s : List ℕ) (next : Next) (p : Replay) (e : List 
   pub within : t.length ≤ length e
   pub after : t.next ≡ (step_of mu s next p).next
 
-pub line-inside : {mu : Mu} {s : List ℕ} {next : Next} {p : Replay} {d e : List ℕ} {t : Told} → Telling mu s next p d e (T.Line t) → Inside mu s next p e t
+pub line-inside : {mu : Mu} {s : List ℕ} {next : Next} {p : Replay} {d e : List ℕ} {t : Told} → Telling mu s next p d e (Ok t) → Inside mu s next p e t
 line-inside {mu} {s} {next} {p} {d} {e} {t} f = go (ltb (length d) 512) f.answer f.buffer
   where
-    go : (b : Bool) → T.Line t ≡ cond b (T.Refused 15) (T.Line (told (length (step_of mu s next p).line) (step_of mu s next p).next (step_of mu s next p).replay))
+    go : (b : Bool) → Ok t ≡ cond b (Err Refusal.NoRoom) (Ok (told (length (step_of mu s next p).line) (step_of mu s next p).next (step_of mu s next p).replay))
         → e ≡ cond b d ((step_of mu s next p).line ++ drop (length (step_of mu s next p).line) d) → Inside mu s next p e t
     go true a b = let z : ◌≡◌ {A = ℕ} 0 1 = cc in absurd (zero_one z)
     go false a b =

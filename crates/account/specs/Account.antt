@@ -1,5 +1,8 @@
 -- The account of a replay, line by line, and whole. Assumes nothing: these are definitions.
-use Rattle.std.specs.Prelude.{ℕ, zero, suc, ◌+◌, ◌≡◌, List, [], ◌∷◌, ◌++◌, Bool, true, false, cond, length, drop, ltb}
+use Rattle.refusal.specs.declared.Refusal.{Refusal}
+use Rattle.std.specs.Prelude.{ℕ, zero, suc, ◌+◌, ◌≡◌, List, [], ◌∷◌, ◌++◌, Bool, true, false, cond, length, drop, ltb, Err, Ok, Result}
+use Rattle.refusal.specs.declared.Refusal.TheVariants as Refusal
+use Rattle.refusal.specs.Refusals.{number_of}
 use Rattle.text.specs.Text.{ascii}
 use Rattle.text.specs.Pieces.{concat}
 use Rattle.session.specs.declared.record.Record.{Record}
@@ -15,8 +18,6 @@ use Rattle.lines.specs.Lines.{refused_pieces}
 use Rattle.account.specs.declared.Next.{Next}
 use Rattle.account.specs.declared.Next.TheVariants.{Heading, At, First, Second, Done}
 use Rattle.account.specs.declared.Told.{Told}
-use Rattle.account.specs.declared.Made.{Made}
-use Rattle.account.specs.declared.Made.TheVariants as T
 
 -- a line, what comes after it, and the vehicles then
 pub record Step : Type 0 where
@@ -33,7 +34,7 @@ unfoldable pub step_for : Mu → Replay → Reading → Step
 step_for mu p (A.Record r q) = line_then (record_pieces q.offset r (S.step_of mu p r).answer) (At q) (S.step_of mu p r).replay
 step_for mu p (A.Offset q) = line_then [] (At q) p
 step_for mu p A.End = line_then [] First p
-step_for mu p (A.Refused n q) = line_then (refused_pieces (ascii "refused ") n q.at) First p
+step_for mu p (A.Refused n q) = line_then (refused_pieces (ascii "refused ") (number_of n) q.at) First p
 
 abbrev pub step_at : Mu → List ℕ → Place → Replay → Step
 step_at mu s q p = step_for mu p (read_at s q)
@@ -54,8 +55,8 @@ pub record Stepped (t : Step) (d e : List ℕ) (r : Told) : Type 0 where
   pub buffer : e ≡ t.line ++ drop (length t.line) d
 
 -- the same, unless d is under 512 bytes: then it stays as it was, and the answer is 15
-pub record Telling (mu : Mu) (s : List ℕ) (next : Next) (p : Replay) (d e : List ℕ) (r : Made) : Type 0 where
-  pub answer : r ≡ cond (ltb (length d) 512) (T.Refused 15) (T.Line (record { length = length (step_of mu s next p).line; next = (step_of mu s next p).next; replay = (step_of mu s next p).replay }))
+pub record Telling (mu : Mu) (s : List ℕ) (next : Next) (p : Replay) (d e : List ℕ) (r : Result Told Refusal) : Type 0 where
+  pub answer : r ≡ cond (ltb (length d) 512) (Err Refusal.NoRoom) (Ok (record { length = length (step_of mu s next p).line; next = (step_of mu s next p).next; replay = (step_of mu s next p).replay }))
   pub buffer : e ≡ cond (ltb (length d) 512) d ((step_of mu s next p).line ++ drop (length (step_of mu s next p).line) d)
 
 abbrev pub is_done : Next → Bool

@@ -5,6 +5,7 @@ ghost use Rattle.std.specs.Prelude.{◌≤◌, ◌≡◌, length};
 ghost use Rattle.account.specs.Account.{is_done, step_at, step_of, Stepped, Telling};
 
 use flight::Mu;
+use refusal::Refusal;
 use replay::Replay;
 use session::{Place, Reading};
 
@@ -26,21 +27,14 @@ pub struct Told {
     pub replay: Replay,
 }
 
-// The line, or the number of the refusal.
-#[derive(Clone, Copy)]
-pub enum Made {
-    Line(Told),
-    Refused(u32),
-}
-
 // One line of the account of s, with these vehicles, at the front of a lent buffer of 512 bytes at least.
-pub fn tell(mu: Mu, s: &[u8], next: Next, p: Replay, line: &mut [u8]) -> Made
+pub fn tell(mu: Mu, s: &[u8], next: Next, p: Replay, line: &mut [u8]) -> Result<Told, Refusal>
     ensures { Telling mu s.now next p line.old line.new result }
 {
     if line.len() < 512 {
-        return Made::Refused(15);
+        return Err(Refusal::NoRoom);
     }
-    Made::Line(step(mu, s, next, p, line))
+    Ok(step(mu, s, next, p, line))
 }
 
 pub fn is_done(next: Next) -> bool
@@ -112,10 +106,10 @@ fn step_at(mu: Mu, s: &[u8], place: Place, p: Replay, line: &mut [u8]) -> Told
             next: Next::First,
             replay: p,
         },
-        Reading::Refused(number, at) => {
+        Reading::Refused(refusal, at) => {
             let q = at.at;
             Told {
-                length: lines::refused_at(line, b"refused ", number as u64, q as u64),
+                length: lines::refused_at(line, b"refused ", refusal.number() as u64, q as u64),
                 next: Next::First,
                 replay: p,
             }

@@ -1,4 +1,6 @@
 -- Every line fits 512 bytes. Assumes nothing.
+use Rattle.std.specs.Prelude.{Err, Ok, Result}
+use Rattle.refusal.specs.declared.Refusal.{Refusal}
 use Prim.Native.Nat.{ℕ, ◌+◌, ◌≤◌}
 use native.Mathlib.Omega.{arith}
 use mathlib.Core.List.{List, [], ◌∷◌}
@@ -11,8 +13,6 @@ use Rattle.text.specs.Pieces.{concat}
 use Rattle.text.proofs.Signs.{signed-short}
 use Rattle.text.proofs.Lays.{size, concat-append}
 use Rattle.columns.proofs.RowLaws.{end_short, labelled-short, refused-fits}
-use Rattle.real.specs.declared.Answer.{Answer}
-use Rattle.real.specs.declared.Answer.TheVariants as A
 use Rattle.real.specs.Numbers.{answer_number}
 use Rattle.iterator.specs.Single.{tried_number}
 use Rattle.iterator.specs.declared.Tried.{Tried}
@@ -40,9 +40,9 @@ point-short n = simp length-append (omega (arith, signed-short n))
 
 -- ---- each routine's answer
 
-pub answer-fits : (a : Answer) → size (answer_pieces a) ≤ 512
-answer-fits (A.Value x) = omega (arith, one-short (ascii "value") x)
-answer-fits (A.Refused n) = refused-fits (answer_number (A.Refused n))
+pub answer-fits : (a : Result Float Refusal) → size (answer_pieces a) ≤ 512
+answer-fits (Ok x) = omega (arith, one-short (ascii "value") x)
+answer-fits (Err n) = refused-fits (answer_number (Err n))
 
 pub tried-fits : (a : Tried) → size (tried_pieces a) ≤ 512
 unfolding concat

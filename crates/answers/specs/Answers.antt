@@ -1,10 +1,9 @@
 -- The other routines' answers as lines, piece by piece: decimals for people, then `bits` and the same numbers exactly; a
 -- refusal by its number. Assumes nothing: these are definitions.
-use Rattle.std.specs.Prelude.{ℕ, List, [], ◌∷◌, ◌++◌, ℤ, Float}
+use Rattle.refusal.specs.declared.Refusal.{Refusal}
+use Rattle.std.specs.Prelude.{ℕ, List, [], ◌∷◌, ◌++◌, ℤ, Float, Err, Ok, Result}
 use Rattle.text.specs.Text.{ascii, signed_text}
 use Rattle.columns.specs.Rows.{labelled_pieces, end_pieces, refused_pieces}
-use Rattle.real.specs.declared.Answer.{Answer}
-use Rattle.real.specs.declared.Answer.TheVariants as A
 use Rattle.real.specs.Numbers.{answer_number}
 use Rattle.iterator.specs.Single.{tried_number}
 use Rattle.iterator.specs.declared.Tried.{Tried}
@@ -34,9 +33,9 @@ none_pieces = ascii "none\n" ∷ []
 -- ---- each answer
 
 -- `value D bits X`
-abbrev pub answer_pieces : Answer → List (List ℕ)
-answer_pieces (A.Value x) = one_pieces (ascii "value") x
-answer_pieces (A.Refused n) = refused_pieces (answer_number (A.Refused n))
+abbrev pub answer_pieces : Result Float Refusal → List (List ℕ)
+answer_pieces (Ok x) = one_pieces (ascii "value") x
+answer_pieces (Err n) = refused_pieces (answer_number (Err n))
 
 abbrev pub tried_pieces : Tried → List (List ℕ)
 tried_pieces (T.Point n) = point_pieces n

@@ -7,7 +7,7 @@ ghost use Rattle.answers.specs.Answers.{one_pieces, closed_pieces, point_pieces,
 
 use apsides::Apsides;
 use iterator::Tried;
-use real::Answer;
+use refusal::Refusal;
 use theta::TransferTime;
 
 // A name and one number.
@@ -41,12 +41,12 @@ fn point(buf: &mut [u8], n: i64) -> usize
 }
 
 // The root's, c's and s's.
-pub fn tell_number(buf: &mut [u8], a: Answer) -> usize
+pub fn tell_number(buf: &mut [u8], a: Result<f64, Refusal>) -> usize
     ensures { Laid buf.old 0 (answer_pieces a) buf.new result }
 {
     match a {
-        Answer::Value(x) => one(buf, b"value", x),
-        Answer::Refused(n) => columns::refused(buf, n),
+        Ok(x) => one(buf, b"value", x),
+        Err(n) => columns::refused(buf, n),
     }
 }
 
@@ -67,8 +67,8 @@ pub fn tell_time(buf: &mut [u8], a: TransferTime) -> usize
 {
     match a {
         TransferTime::Time(x) => one(buf, b"time", x.time),
-        TransferTime::TooLong => columns::refused(buf, 7),
-        TransferTime::TooShort => columns::refused(buf, 8),
+        TransferTime::TooLong => columns::refused(buf, Refusal::TooLong),
+        TransferTime::TooShort => columns::refused(buf, Refusal::TooShort),
         TransferTime::Refused(n) => columns::refused(buf, n),
     }
 }

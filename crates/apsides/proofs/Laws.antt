@@ -1,6 +1,7 @@
 -- The refusal number of the apsides is the first row's that applies, and 1 where an input is infinite or not a number; no answer
 -- holds a NaN.
 -- Assumes nothing.
+use Rattle.std.specs.Prelude.{Result, Ok, Err}
 use Prim.Native.Nat.{zero, suc, ◌+◌, ◌-◌, ◌*◌, ◌≤◌, ◌<◌}
 use native.Mathlib.Omega.{arith}
 use mathlib.Core.Path.{◌≡◌, refl, sym, ap, ◌∙◌, subst}
@@ -16,8 +17,6 @@ use Rattle.real.specs.F64.{◌⊕◌, ◌⊖◌, ◌⊗◌, ◌⊘◌, ◌≤ᶠ
 use Rattle.real.proofs.Bounds.{Within, within-finite, add-within, round-no-nan, or_cases, round-from-1}
 use Rattle.root.proofs.Sign.{NotBelow, root-not-below}
 use Rattle.vector.specs.declared.State.{State}
-use Rattle.table.specs.declared.Test.{Test}
-use Rattle.table.specs.declared.Test.TheVariants.{Passed, Failed}
 use Rattle.vector.specs.Vectors.{position_of, velocity_of}
 use Rattle.table.specs.declared.Name.TheVariants.{Position, Velocity}
 use Rattle.table.specs.declared.Entry.{Entry}
@@ -105,10 +104,10 @@ distances-number d = go (f0 <ᶠ d.alpha && f0 <ᶠ f1 ⊖ d.e && d.p ⊘ (f1 �
     go true = refl
     go false = refl
 
-pub answered-number : (t : Test) (d : Shape) → apsides_number (answered t d) ≡ Tests.test_number t
+pub answered-number : (t : Result Unit Entry) (d : Shape) → apsides_number (answered t d) ≡ Tests.test_number t
 unfolding answered apsides_number Tests.test_number
-answered-number Passed d = distances-number d
-answered-number (Failed e) d = refl
+answered-number (Ok tt) d = distances-number d
+answered-number (Err e) d = refl
 
 module _ (mu : Float) (s : State) where
   abbrev tests : List Entry
@@ -153,10 +152,10 @@ near-clean mu s g =
     let w = under-8 d.e n (and_0 e8 true (and-1 pn (e8 && true) k)) in
     quotient d.p (f1 ⊕ d.e) (dividend d.p d.r1 (at_most d.pn (two^ 4) (and_0 pn (e8 && true) k))) (finite-plus d.e w) (one-plus d.e (within-finite d.e 8 w) n)
 
-answered-clean : (t : Test) (d : Shape) → (t ≡ Passed → Clean (distances_of d)) → Clean (answered t d)
+answered-clean : (t : Result Unit Entry) (d : Shape) → (t ≡ Ok tt → Clean (distances_of d)) → Clean (answered t d)
 unfolding answered
-answered-clean Passed d h = h refl
-answered-clean (Failed e) d h = tt
+answered-clean (Ok tt) d h = h refl
+answered-clean (Err e) d h = tt
 
 pub apsides-clean : (mu : Float) (s : State) → Clean (apsides_of mu s)
 apsides-clean mu s =

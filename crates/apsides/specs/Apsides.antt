@@ -1,5 +1,7 @@
 -- Periapo: the apsides, in the operations of f64 and in their order. Assumes nothing: these are definitions.
-use Rattle.std.specs.Prelude.{ℕ, cond, ◌&&◌, List, [], ◌∷◌, ◌++◌, Float}
+use Rattle.std.specs.Prelude.{ℕ, cond, ◌&&◌, List, [], ◌∷◌, ◌++◌, Float, Result, Ok, Err}
+use Rattle.refusal.specs.declared.Refusal.TheVariants as Refusal
+use Rattle.refusal.specs.Refusals.{number_of}
 use Rattle.real.specs.F64.{◌⊕◌, ◌⊖◌, ◌⊗◌, ◌⊘◌, ◌<ᶠ◌, two^, f0, f1}
 use Rattle.root.specs.Root.{root_of}
 use Rattle.vector.specs.declared.State.{State}
@@ -7,8 +9,6 @@ use Rattle.table.specs.declared.Name.TheVariants.{Position, Velocity, E}
 use Rattle.table.specs.declared.Part.TheVariants.{Whole}
 use Rattle.table.specs.declared.Limit.TheVariants.{Under}
 use Rattle.table.specs.declared.Entry.{Entry}
-use Rattle.table.specs.declared.Test.{Test}
-use Rattle.table.specs.declared.Test.TheVariants.{Passed, Failed}
 use Rattle.vector.specs.Vectors.{position_of, velocity_of, cross_of, length_of}
 use Rattle.table.specs.Tests.{entry, first_failing}
 use Rattle.rows.specs.Rows.{finite_inputs, state_rows}
@@ -38,7 +38,7 @@ shape_of mu s =
 
 -- 6: |c2| < 2^6, p_N = p/r ≤ 2^4, e < 2^3
 abbrev pub derived_row : Shape → List Entry
-derived_row d = c2_row d.c2 ++ p_row d.pn ++ (entry 6 E Whole d.e (Under (two^ 3)) ∷ [])
+derived_row d = c2_row d.c2 ++ p_row d.pn ++ (entry Refusal.DerivedOutOfRange E Whole d.e (Under (two^ 3)) ∷ [])
 
 -- rows 1 to 4, 6 and 19
 abbrev pub apsides_tests : Float → State → Shape → List Entry
@@ -51,9 +51,9 @@ distances_of d =
     let far = d.p ⊘ (f1 ⊖ d.e) in
     cond (f0 <ᶠ d.alpha && f0 <ᶠ f1 ⊖ d.e && far <ᶠ two^ 29) (Closed near far) (Open near)
 
-unfoldable pub answered : Test → Shape → Apsides
-answered Passed d = distances_of d
-answered (Failed e) d = Refused e.number
+unfoldable pub answered : Result Unit Entry → Shape → Apsides
+answered (Ok tt) d = distances_of d
+answered (Err e) d = Refused e.refusal
 
 abbrev pub apsides_of : Float → State → Apsides
 apsides_of mu s = answered (first_failing (apsides_tests mu s (shape_of mu s))) (shape_of mu s)
@@ -62,4 +62,4 @@ apsides_of mu s = answered (first_failing (apsides_tests mu s (shape_of mu s))) 
 unfoldable pub apsides_number : Apsides → ℕ
 apsides_number (Closed near far) = 0
 apsides_number (Open near) = 0
-apsides_number (Refused n) = n
+apsides_number (Refused n) = number_of n

@@ -5,7 +5,8 @@ ghost use Rattle.std.specs.Prelude.{◌≡◌};
 ghost use Rattle.table.specs.Tests.{◌▷◌, first_failing};
 ghost use Rattle.apsides.specs.Apsides.{radicand_of, shape_of, derived_row, apsides_tests, distances_of, apsides_of};
 
-use table::{Name, Part, Test};
+use refusal::Refusal;
+use table::{Entry, Limit, Name, Part};
 use vector::State;
 
 // Closed with near and far, open with near only, or refused with its number.
@@ -13,7 +14,7 @@ use vector::State;
 pub enum Apsides {
     Closed(f64, f64),
     Open(f64),
-    Refused(u32),
+    Refused(Refusal),
 }
 
 // The derived numbers.
@@ -40,11 +41,11 @@ fn radicand(x: f64) -> f64
 pub fn shape_of(mu: f64, s: State) -> Shape
     ensures { result ≡ shape_of mu s }
 {
-    let r = vector::position(s);
-    let v = vector::velocity(s);
-    let r1 = vector::length(r);
+    let r = s.position();
+    let v = s.velocity();
+    let r1 = r.length();
     let c2 = conic::c2(r1, v, mu);
-    let p = conic::p(vector::cross(r, v), mu);
+    let p = conic::p(r.cross(v), mu);
     let alpha = 1.0 - c2;
     let pn = p / r1;
     let e = root::square_root(radicand(1.0 - pn * alpha));
@@ -59,21 +60,32 @@ pub fn shape_of(mu: f64, s: State) -> Shape
 }
 
 // Row 6: |c2| < 2^6, p_N ≤ 2^4, e < 2^3.
-fn derived_row(t: Test, d: Shape) -> Test
-    ensures { result ≡ t ▷ derived_row d }
+#[tactic(auto, using(table::proofs::Laws::told_fails, table::proofs::Laws::told_passes))]
+fn derived_row(d: Shape) -> Result<(), Entry>
+    ensures { result ≡ Ok tt ▷ derived_row d }
 {
-    let a = conic::p_row(conic::c2_row(t, d.c2), d.pn);
-    table::under(a, 6, Name::E, Part::Whole, d.e, 8.0)
+    conic::c2_row(d.c2)?;
+    conic::p_row(d.pn)?;
+    table::test(
+        Refusal::DerivedOutOfRange,
+        Name::E,
+        Part::Whole,
+        d.e,
+        Limit::Under(8.0),
+    )
 }
 
 // Rows 1 to 4, 6 and 19.
-pub fn tests(mu: f64, s: State, d: Shape) -> Test
+#[tactic(auto, using(table::proofs::Laws::told_fails, table::proofs::Laws::told_passes))]
+pub fn tests(mu: f64, s: State, d: Shape) -> Result<(), Entry>
     ensures { result ≡ first_failing (apsides_tests mu s d) }
 {
-    let r = vector::position(s);
-    let v = vector::velocity(s);
-    let a = rows::finite_inputs(mu, Name::Position, r, Name::Velocity, v);
-    conic::straight_row(derived_row(rows::state_rows(a, mu, s, d.r1), d), d.pn)
+    let r = s.position();
+    let v = s.velocity();
+    rows::finite_inputs(mu, Name::Position, r, Name::Velocity, v)?;
+    rows::state_rows(mu, s, d.r1)?;
+    derived_row(d)?;
+    conic::straight_row(d.pn)
 }
 
 fn distances(d: Shape) -> Apsides
@@ -93,7 +105,7 @@ pub fn periapo(mu: f64, s: State) -> Apsides
 {
     let d = shape_of(mu, s);
     match tests(mu, s, d) {
-        Test::Passed => distances(d),
-        Test::Failed(f) => Apsides::Refused(f.number),
+        Ok(()) => distances(d),
+        Err(f) => Apsides::Refused(f.refusal),
     }
 }

@@ -1,5 +1,6 @@
 // The checksum of the answers: each number is folded as its bits, a refusal as its number.
 use crate::inputs::wrapping_mul;
+use refusal::Refusal;
 use solve::{Grade, Solution};
 use vector::{State, Vector};
 
@@ -21,8 +22,8 @@ pub fn number(sum: u64, x: f64) -> u64 {
     word(sum, bits(x))
 }
 
-pub fn refusal(sum: u64, no: u32) -> u64 {
-    word(sum, no as u64)
+pub fn refusal(sum: u64, refusal: Refusal) -> u64 {
+    word(sum, u64::from(refusal.number()))
 }
 
 // n as its two's complement.
@@ -53,7 +54,7 @@ pub fn vector(sum: u64, a: Vector) -> u64 {
 }
 
 pub fn state(sum: u64, s: State) -> u64 {
-    vector(vector(sum, vector::position(s)), vector::velocity(s))
+    vector(vector(sum, s.position()), s.velocity())
 }
 
 // Each byte of a text.

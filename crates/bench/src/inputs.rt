@@ -49,7 +49,7 @@ pub fn position(from: &mut u64) -> Vector {
 
 pub fn state(from: &mut u64) -> State {
     let r = position(from);
-    vector::state_of(r, vector_within(from, 20.0))
+    State::new(r, vector_within(from, 20.0))
 }
 
 // Any number with a clear sign bit; the pattern of a NaN gives a NaN.

@@ -12,12 +12,6 @@ ghost use Rattle.std.specs.Prelude.{◌<◌, ◌≤◌, length};
 use runs::{Bench, run, usual};
 use std::env::Env;
 
-#[derive(Clone, Copy)]
-enum Named {
-    Bench(Bench),
-    Unknown,
-}
-
 // 16 digits and a newline.
 fn print(rt: &(impl Print + Eprint), sum: u64) {
     let mut line = [b'\n'; 17];
@@ -29,14 +23,14 @@ fn print(rt: &(impl Print + Eprint), sum: u64) {
     console::print(rt, &line);
 }
 
-fn bench_of(name: &[u8]) -> Named {
+fn bench_of(name: &[u8]) -> Option<Bench> {
     match name {
-        b"root" => Named::Bench(Bench::Root),
-        b"advance" => Named::Bench(Bench::Advance),
-        b"lambert" => Named::Bench(Bench::Lambert),
-        b"theta" => Named::Bench(Bench::Theta),
-        b"list" => Named::Bench(Bench::List),
-        _ => Named::Unknown,
+        b"root" => Some(Bench::Root),
+        b"advance" => Some(Bench::Advance),
+        b"lambert" => Some(Bench::Lambert),
+        b"theta" => Some(Bench::Theta),
+        b"list" => Some(Bench::List),
+        _ => None,
     }
 }
 
@@ -111,8 +105,8 @@ fn main(rt: HostRuntime) {
     };
     let m = ahead(&word[..n]);
     match bench_of(&word[..m]) {
-        Named::Bench(bench) => print(&rt, run(bench, m < n, count_for(&rt, bench))),
-        Named::Unknown => {
+        Some(bench) => print(&rt, run(bench, m < n, count_for(&rt, bench))),
+        None => {
             console::say(
                 &rt,
                 b"bench: root, advance, lambert, theta or list, with -inputs behind it or not, and a count\n",

@@ -4,8 +4,8 @@ ghost use Rattle.console.specs.Counts.{IsPrefixLen};
 
 use crate::{fold, inputs, records};
 use lambert::Way;
-use real::Answer;
-use report::{Filling, Next};
+use refusal::Refusal;
+use report::Next;
 use solve::{Advanced, Transferred};
 use theta::TransferTime;
 
@@ -24,8 +24,8 @@ fn root(bare: bool, from: &mut u64, sum: u64) -> u64 {
         return fold::number(sum, x);
     }
     match root::root(x) {
-        Answer::Value(x) => fold::number(sum, x),
-        Answer::Refused(no) => fold::refusal(sum, no),
+        Ok(x) => fold::number(sum, x),
+        Err(no) => fold::refusal(sum, no),
     }
 }
 
@@ -38,8 +38,8 @@ fn advance(bare: bool, from: &mut u64, sum: u64) -> u64 {
     }
     match solve::advance(mu, s, t) {
         Advanced::Found(to, x, _) => fold::state(fold::solution(sum, x), to),
-        Advanced::TooLong => fold::refusal(sum, 7),
-        Advanced::NotFinished(_) => fold::refusal(sum, 29),
+        Advanced::TooLong => fold::refusal(sum, Refusal::TooLong),
+        Advanced::NotFinished(_) => fold::refusal(sum, Refusal::NotFinished),
         Advanced::Refused(no) => fold::refusal(sum, no),
     }
 }
@@ -56,9 +56,9 @@ fn lambert(bare: bool, from: &mut u64, sum: u64) -> u64 {
     }
     match solve::transfer_velocity(mu, first, second, way, t) {
         Transferred::Found(v, x) => fold::vector(fold::solution(sum, x), v),
-        Transferred::TooLong => fold::refusal(sum, 7),
-        Transferred::TooShort => fold::refusal(sum, 8),
-        Transferred::NotFinished(_) => fold::refusal(sum, 29),
+        Transferred::TooLong => fold::refusal(sum, Refusal::TooLong),
+        Transferred::TooShort => fold::refusal(sum, Refusal::TooShort),
+        Transferred::NotFinished(_) => fold::refusal(sum, Refusal::NotFinished),
         Transferred::Refused(no) => fold::refusal(sum, no),
     }
 }
@@ -86,13 +86,13 @@ fn theta(bare: bool, from: &mut u64, sum: u64) -> u64 {
     let sin = (h + h) / all;
     let cos = (1.0 - h * h) / all;
     if bare {
-        let a = vector::sum(vector::position(s), vector::velocity(s));
+        let a = s.position() + s.velocity();
         return fold::number(sum, mu + a.x + a.y + a.z + sin + cos);
     }
     match theta::time_theta(mu, s, sin, cos) {
         TransferTime::Time(x) => fold::number(sum, x.time),
-        TransferTime::TooLong => fold::refusal(sum, 7),
-        TransferTime::TooShort => fold::refusal(sum, 8),
+        TransferTime::TooLong => fold::refusal(sum, Refusal::TooLong),
+        TransferTime::TooShort => fold::refusal(sum, Refusal::TooShort),
         TransferTime::Refused(no) => fold::refusal(sum, no),
     }
 }
@@ -112,7 +112,7 @@ fn listings(s: &[u8], out: &mut [u8], count: u64) -> u64 {
     let mut sum = fold::EMPTY;
     let mut length = 0;
     for _ in 0..count {
-        let Filling::Lines(f) = report::fill(s, Next::Heading, out) else {
+        let Ok(f) = report::fill(s, Next::Heading, out) else {
             return sum;
         };
         length = f.length;

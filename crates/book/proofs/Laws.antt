@@ -1,54 +1,65 @@
 -- Line by line, and how long what ends it can be. Assumes nothing.
-use Prim.Native.Nat.{ℕ, ◌≤◌}
+use Rattle.refusal.specs.Refusals.{number_of}
+use Prim.Native.Nat.{ℕ, min, ◌+◌, ◌^◌, ◌≤◌, ◌<◌}
 use native.Mathlib.Omega.{arith}
 use mathlib.Core.Path.{◌≡◌, refl, ap}
 use mathlib.Core.List.{List, [], ◌∷◌}
 use lib.ListN.{length, length-append}
-use lib.Dec.{lit≤}
+use lib.Dec.{ltb, lit≤}
 use Rattle.text.specs.Pieces.{concat}
 use Rattle.text.proofs.Decimals.{at_most}
 use Rattle.entry.specs.Entries.{entry_of}
-use Rattle.enter.specs.declared.Entered.{Entered}
-use Rattle.enter.specs.declared.Entered.TheVariants as E
+use Rattle.enter.specs.declared.Fault.{Fault}
+use Rattle.enter.specs.declared.Fault.TheVariants.{Refused, Unread}
+use Rattle.std.specs.Prelude.{Err, Ok, Result}
+use mathlib.Core.Bool.{Bool, true, false, cond}
+use borrow.Author.Tests.{ltb-true, ltb-false}
 use Rattle.enter.proofs.Within.{within}
 use Rattle.enter.specs.Enter.{entered_of, session_of}
 use Rattle.book.specs.declared.Progress.{Progress}
-use Rattle.book.specs.declared.Progress.TheVariants.{Going, Unread, Refused}
-use Rattle.book.specs.Book.{one_more, as_progress, progress_of, progress_over, written_by, tell_room, fault_pieces, tell_pieces}
+use Rattle.book.specs.declared.Ended.{Ended}
+use Rattle.book.specs.Book.{one_more, as_progress, progress_of, progress_over, written_by, tell_room, fault_pieces, told_pieces, tell_pieces}
+
+-- one line more
+pub counted : (n : ℕ) → n < 2 ^ 64 → min (n + 1) 18446744073709551615 ≡ one_more n
+unfolding one_more
+counted n h = by n (ltb n 18446744073709551615) refl h
+  where
+    by : (n : ℕ) (b : Bool) → ltb n 18446744073709551615 ≡ b → n < 2 ^ 64 → min (n + 1) 18446744073709551615 ≡ cond b (n + 1) n
+    by n true e h = omega (arith, ltb-true n 18446744073709551615 e)
+    by n false e h = omega (arith, ltb-false n 18446744073709551615 e)
 
 -- no line, and one line more
-pub turns-none : (d : List ℕ) (t : Progress) → (progress_over [] d t ≡ t) × (written_by [] d t ≡ d)
+pub turns-none : (d : List ℕ) (t : Result Progress Ended) → (progress_over [] d t ≡ t) × (written_by [] d t ≡ d)
 unfolding progress_over written_by
 turns-none d t = (refl, refl)
 
-pub turns_more : (d : List ℕ) (at count : ℕ) (line : List ℕ) (lines : List (List ℕ))
-    → (progress_over (line ∷ lines) d (Going at count) ≡ progress_over lines (session_of d at (entry_of line)) (progress_of d at count line))
-    × (written_by (line ∷ lines) d (Going at count) ≡ written_by lines (session_of d at (entry_of line)) (progress_of d at count line))
+pub turns_more : (d : List ℕ) (p : Progress) (line : List ℕ) (lines : List (List ℕ))
+    → (progress_over (line ∷ lines) d (Ok p) ≡ progress_over lines (session_of d p.at (entry_of line)) (progress_of d p line))
+    × (written_by (line ∷ lines) d (Ok p) ≡ written_by lines (session_of d p.at (entry_of line)) (progress_of d p line))
 unfolding progress_over written_by
-turns_more d at count line lines = (refl, refl)
+turns_more d p line lines = (refl, refl)
 
 -- what has ended it, ends it
-pub turns-unread : (d : List ℕ) (l w : ℕ) (lines : List (List ℕ)) → progress_over lines d (Unread l w) ≡ Unread l w
+pub turns-ended : (d : List ℕ) (e : Ended) (lines : List (List ℕ)) → progress_over lines d (Err e) ≡ Err e
 unfolding progress_over
-turns-unread d l w [] = refl
-turns-unread d l w (line ∷ lines) = refl
-
-pub turns-refused : (d : List ℕ) (l n : ℕ) (lines : List (List ℕ)) → progress_over lines d (Refused l n) ≡ Refused l n
-unfolding progress_over
-turns-refused d l n [] = refl
-turns-refused d l n (line ∷ lines) = refl
+turns-ended d e [] = refl
+turns-ended d e (line ∷ lines) = refl
 
 -- the place stays within the buffer
-going : (n : ℕ) (e : Entered) (a m : ℕ) → as_progress n e ≡ Going a m → e ≡ E.Next a
-going n (E.Next at) a m h = let w : at ≡ a = cc in ap E.Next w
-going n (E.Refused x) a m h = let w : ◌≡◌ {A = ℕ} 0 1 = cc in let z : ⊥ = omega arith in absurd z
-going n (E.Unread x) a m h = let w : ◌≡◌ {A = ℕ} 0 1 = cc in let z : ⊥ = omega arith in absurd z
+going : (n : ℕ) (e : Result ℕ Fault) (y : Progress) → as_progress n e ≡ Ok y → e ≡ Ok y.at
+going n (Ok at) y h = let w : ◌≡◌ {A = Progress} (record { at = at; count = n }) y = cc in ap (λ (x : Progress). Ok x.at) w
+going n (Err f) y h = absurd (cc)
 
-pub turn-within : (d : List ℕ) (at count : ℕ) (line : List ℕ) (a m : ℕ) → at ≤ length d → progress_of d at count line ≡ Going a m → a ≤ length d
-turn-within d at count line a m h e = within d at (entry_of line) a h (going (one_more count) (entered_of d at (entry_of line)) a m e)
+pub turn-within : (d : List ℕ) (p : Progress) (line : List ℕ) (y : Progress) → p.at ≤ length d → progress_of d p line ≡ Ok y → y.at ≤ length d
+turn-within d p line y h e = within d p.at (entry_of line) y.at h (going (one_more p.count) (entered_of d p.at (entry_of line)) y e)
 
-pub tell-fits : (t : Progress) → length (concat (tell_pieces t)) ≤ tell_room
+told-fits : (line : ℕ) (f : Fault) → length (concat (told_pieces line f)) ≤ tell_room
 unfolding concat fault_pieces
-tell-fits (Going at count) = lit≤ tt
-tell-fits (Unread l w) = simp length-append (omega (arith, at_most 20 l, at_most 20 w))
-tell-fits (Refused l n) = simp length-append (omega (arith, at_most 20 l, at_most 20 n))
+told-fits l (Unread w) = simp length-append (omega (arith, at_most 20 l, at_most 20 w))
+told-fits l (Refused n) = simp length-append (omega (arith, at_most 20 l, at_most 20 (number_of n)))
+
+pub tell-fits : (t : Result Progress Ended) → length (concat (tell_pieces t)) ≤ tell_room
+unfolding concat
+tell-fits (Ok p) = lit≤ tt
+tell-fits (Err e) = told-fits e.line e.fault

@@ -1,13 +1,14 @@
 -- Lines entered one behind the other. Assumes nothing: these are definitions.
-use Rattle.std.specs.Prelude.{ℕ, ◌+◌, List, [], ◌∷◌, cond, ltb}
+use Rattle.std.specs.Prelude.{ℕ, ◌+◌, List, [], ◌∷◌, cond, ltb, Err, Ok, Result}
+use Rattle.refusal.specs.Refusals.{number_of}
 use Rattle.text.specs.Text.{ascii, decimal}
 use Rattle.text.specs.Pieces.{concat}
 use Rattle.entry.specs.Entries.{entry_of}
-use Rattle.enter.specs.declared.Entered.{Entered}
-use Rattle.enter.specs.declared.Entered.TheVariants as E
+use Rattle.enter.specs.declared.Fault.{Fault}
+use Rattle.enter.specs.declared.Fault.TheVariants.{Refused, Unread}
 use Rattle.enter.specs.Enter.{entered_of, session_of}
 use Rattle.book.specs.declared.Progress.{Progress}
-use Rattle.book.specs.declared.Progress.TheVariants.{Going, Unread, Refused}
+use Rattle.book.specs.declared.Ended.{Ended}
 
 -- ---- one line
 
@@ -15,30 +16,27 @@ use Rattle.book.specs.declared.Progress.TheVariants.{Going, Unread, Refused}
 unfoldable pub one_more : ℕ → ℕ
 one_more n = cond (ltb n 18446744073709551615) (n + 1) n
 
-abbrev pub as_progress : ℕ → Entered → Progress
-as_progress n (E.Next at) = Going at n
-as_progress n (E.Refused number) = Refused n number
-as_progress n (E.Unread word) = Unread n word
+abbrev pub as_progress : ℕ → Result ℕ Fault → Result Progress Ended
+as_progress n (Ok at) = Ok (record { at = at; count = n })
+as_progress n (Err f) = Err (record { line = n; fault = f })
 
--- the line behind `count` others, entered into the session d whose records end at a place
-abbrev pub progress_of : List ℕ → ℕ → ℕ → List ℕ → Progress
-progress_of d at count line = as_progress (one_more count) (entered_of d at (entry_of line))
+-- the line behind those that were read, entered into the session d
+abbrev pub progress_of : List ℕ → Progress → List ℕ → Result Progress Ended
+progress_of d p line = as_progress (one_more p.count) (entered_of d p.at (entry_of line))
 
 -- ---- all lines
 
 -- line by line, until one ends it
-unfoldable pub progress_over : List (List ℕ) → List ℕ → Progress → Progress
+unfoldable pub progress_over : List (List ℕ) → List ℕ → Result Progress Ended → Result Progress Ended
 progress_over [] d t = t
-progress_over (line ∷ lines) d (Going at count) = progress_over lines (session_of d at (entry_of line)) (progress_of d at count line)
-progress_over (line ∷ lines) d (Unread l word) = Unread l word
-progress_over (line ∷ lines) d (Refused l number) = Refused l number
+progress_over (line ∷ lines) d (Ok p) = progress_over lines (session_of d p.at (entry_of line)) (progress_of d p line)
+progress_over (line ∷ lines) d (Err e) = Err e
 
 -- and what becomes of the buffer
-unfoldable pub written_by : List (List ℕ) → List ℕ → Progress → List ℕ
+unfoldable pub written_by : List (List ℕ) → List ℕ → Result Progress Ended → List ℕ
 written_by [] d t = d
-written_by (line ∷ lines) d (Going at count) = written_by lines (session_of d at (entry_of line)) (progress_of d at count line)
-written_by (line ∷ lines) d (Unread l word) = d
-written_by (line ∷ lines) d (Refused l number) = d
+written_by (line ∷ lines) d (Ok p) = written_by lines (session_of d p.at (entry_of line)) (progress_of d p line)
+written_by (line ∷ lines) d (Err e) = d
 
 -- ---- what ended it, as a line
 
@@ -50,10 +48,13 @@ unfoldable pub fault_pieces : ℕ → List ℕ → ℕ → List (List ℕ)
 fault_pieces line word n = ascii "line " ∷ decimal line ∷ word ∷ decimal n ∷ ascii "\n" ∷ []
 
 -- `line L: unread W`, `line L: refused N`
-abbrev pub tell_pieces : Progress → List (List ℕ)
-tell_pieces (Going at count) = []
-tell_pieces (Unread line word) = fault_pieces line (ascii ": unread ") word
-tell_pieces (Refused line number) = fault_pieces line (ascii ": refused ") number
+abbrev pub told_pieces : ℕ → Fault → List (List ℕ)
+told_pieces line (Unread word) = fault_pieces line (ascii ": unread ") word
+told_pieces line (Refused r) = fault_pieces line (ascii ": refused ") (number_of r)
 
-abbrev pub tell_text : Progress → List ℕ
+abbrev pub tell_pieces : Result Progress Ended → List (List ℕ)
+tell_pieces (Ok p) = []
+tell_pieces (Err e) = told_pieces e.line e.fault
+
+abbrev pub tell_text : Result Progress Ended → List ℕ
 tell_text t = concat (tell_pieces t)

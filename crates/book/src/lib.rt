@@ -7,46 +7,34 @@ ghost use Rattle.text.specs.Text.{InFront};
 ghost use Rattle.text.specs.Pieces.{Laid};
 ghost use Rattle.entry.specs.Entries.{entry_of};
 ghost use Rattle.enter.specs.Enter.{session_of};
-ghost use Rattle.book.specs.Book.{one_more, as_progress, progress_of, tell_room, fault_pieces, tell_pieces, tell_text};
+ghost use Rattle.book.specs.Book.{progress_of, tell_room, fault_pieces, told_pieces, tell_pieces, tell_text};
 
-use enter::Entered;
-use text::Made;
+use enter::Fault;
+use refusal::Refusal;
 
-// The place behind the records and how many lines were read; or the line that ended it, with the word that cannot be
-// read or the number of the refusal.
+// How far the lines were entered: the place behind the records, and how many lines were read.
 #[derive(Clone, Copy)]
-pub enum Progress {
-    Going(usize, u64),
-    Unread(u64, u64),
-    Refused(u64, u32),
+pub struct Progress {
+    pub at: usize,
+    pub count: u64,
 }
 
-// One line more; the count stands still at its end, 2^64-1.
-fn one_more(n: u64) -> u64
-    ensures { result ≡ one_more n }
+// The line that ended it, and why.
+#[derive(Clone, Copy)]
+pub struct Ended {
+    pub line: u64,
+    pub fault: Fault,
+}
+
+// A line, without its newline, behind those that were read. The count stands still at its end, 2^64-1.
+pub fn add(session: &mut [u8], progress: Progress, line: &[u8]) -> Result<Progress, Ended>
+    ensures { (result ≡ progress_of session.old progress line.now) × (session.new ≡ session_of session.old progress.at (entry_of line.now)) }
 {
-    if n < 18446744073709551615 {
-        return n + 1;
+    let count = progress.count.saturating_add(1);
+    match enter::enter(session, progress.at, line) {
+        Ok(at) => Ok(Progress { at, count }),
+        Err(fault) => Err(Ended { line: count, fault }),
     }
-    n
-}
-
-fn as_progress(n: u64, e: Entered) -> Progress
-    ensures { result ≡ as_progress n e }
-{
-    match e {
-        Entered::Next(at) => Progress::Going(at, n),
-        Entered::Refused(number) => Progress::Refused(n, number),
-        Entered::Unread(word) => Progress::Unread(n, word),
-    }
-}
-
-// A line, without its newline, behind those that were read.
-pub fn add(session: &mut [u8], at: usize, count: u64, line: &[u8]) -> Progress
-    ensures { (result ≡ progress_of session.old at count line.now) × (session.new ≡ session_of session.old at (entry_of line.now)) }
-{
-    let n = one_more(count);
-    as_progress(n, enter::enter(session, at, line))
 }
 
 fn fault(buf: &mut [u8], line: u64, word: &[u8], n: u64) -> usize
@@ -59,23 +47,31 @@ fn fault(buf: &mut [u8], line: u64, word: &[u8], n: u64) -> usize
     text::byte(buf, d, b'\n')
 }
 
-fn told(buf: &mut [u8], t: Progress) -> usize
+fn told_end(buf: &mut [u8], ended: Ended) -> usize
+    ensures { Laid buf.old 0 (told_pieces ended.line ended.fault) buf.new result }
+{
+    match ended.fault {
+        Fault::Unread(word) => fault(buf, ended.line, b": unread ", word),
+        Fault::Refused(refusal) => fault(buf, ended.line, b": refused ", refusal.number() as u64),
+    }
+}
+
+fn told(buf: &mut [u8], t: Result<Progress, Ended>) -> usize
     ensures { Laid buf.old 0 (tell_pieces t) buf.new result }
 {
     match t {
-        Progress::Going(_, _) => 0,
-        Progress::Unread(line, word) => fault(buf, line, b": unread ", word),
-        Progress::Refused(line, number) => fault(buf, line, b": refused ", number as u64),
+        Ok(_) => 0,
+        Err(ended) => told_end(buf, ended),
     }
 }
 
 // What ended it as a line, newline and all, made at the front of a lent buffer: its length, which is 0 where nothing did,
 // or 15 for a buffer of under 64 bytes, which stays as it was.
-pub fn tell(t: Progress, buf: &mut [u8]) -> Made
+pub fn tell(t: Result<Progress, Ended>, buf: &mut [u8]) -> Result<usize, Refusal>
     ensures { InFront tell_room (tell_text t) buf.old buf.new result }
 {
     if buf.len() < 64 {
-        return Made::Refused(15);
+        return Err(Refusal::NoRoom);
     }
-    Made::Line(told(buf, t))
+    Ok(told(buf, t))
 }

@@ -2,14 +2,13 @@
 // passive one's, and the apsides after it.
 #![tactic(auto)]
 
-ghost use Rattle.std.specs.Prelude.{◌≡◌};
-ghost use Rattle.burn.specs.Burn.{kept_of, moved_of, at_time, in_line_of, margin_of, clear_of, cleared_of, changed_of, sped_of, beside_of, coelliptic_of, from_point, from_passive, radius_allowed, burn_of};
+ghost use Rattle.std.specs.Prelude.{◌≡◌, Ok};
+ghost use Rattle.burn.specs.Burn.{kept_of, moved_of, at_time, in_line_of, margin_of, clear_of, cleared_of, changed_of, sped_of, beside_of, coelliptic_of, from_passive, radius_allowed, burn_of};
 
 use apsides::Apsides;
 use coelliptic::{Angle, Passive, Speeds};
-use elapsed::Elapsed;
+use refusal::Refusal;
 use solve::Advanced;
-use table::Test;
 use theta::TransferTime;
 use vector::{State, Vector};
 
@@ -21,58 +20,48 @@ pub struct Centre {
     pub mu: f64,
 }
 
-// The velocity change with the apsides after it, near and far or near alone, or refused with its number.
+// The velocity change with the apsides after it, near and far or near alone.
 #[derive(Clone, Copy)]
 pub enum Burn {
     Closed(Vector, f64, f64),
     Open(Vector, f64),
-    Refused(u32),
-}
-
-// A state moved along its orbit, or the number of the refusal.
-#[derive(Clone, Copy)]
-enum Brought {
-    Moved(State),
-    Refused(u32),
 }
 
 // What an advance comes to.
-fn kept(a: Advanced) -> Brought
+fn kept(a: Advanced) -> Result<State, Refusal>
     ensures { result ≡ kept_of a }
 {
     match a {
-        Advanced::Found(s, _, _) => Brought::Moved(s),
-        Advanced::TooLong => Brought::Refused(7),
-        Advanced::NotFinished(_) => Brought::Refused(29),
-        Advanced::Refused(n) => Brought::Refused(n),
+        Advanced::Found(s, _, _) => Ok(s),
+        Advanced::TooLong => Err(Refusal::TooLong),
+        Advanced::NotFinished(_) => Err(Refusal::NotFinished),
+        Advanced::Refused(refusal) => Err(refusal),
     }
 }
 
-fn moved(mu: f64, s: State, t: f64) -> Brought
+fn moved(mu: f64, s: State, t: f64) -> Result<State, Refusal>
     ensures { result ≡ moved_of mu s t }
 {
     kept(solve::advance(mu, s, t))
 }
 
 // A state of one time at another.
-fn at_time(mu: f64, s: State, from: i64, to: i64) -> Brought
+fn at_time(mu: f64, s: State, from: i64, to: i64) -> Result<State, Refusal>
     ensures { result ≡ at_time mu s from to }
 {
-    match elapsed::between(from, to) {
-        Elapsed::Cs(t) => moved(mu, s, t),
-        Elapsed::TooLong => Brought::Refused(5),
-    }
+    let t = elapsed::between(from, to).ok_or(Refusal::TimeOutOfRange)?;
+    moved(mu, s, t)
 }
 
 // The passive vehicle at the point in line.
-fn in_line(mu: f64, s: State, g: Angle) -> Brought
+fn in_line(mu: f64, s: State, g: Angle) -> Result<State, Refusal>
     ensures { result ≡ in_line_of mu s g }
 {
     match theta::time_theta(mu, s, g.sin, g.cos) {
         TransferTime::Time(t) => moved(mu, s, t.time),
-        TransferTime::TooLong => Brought::Refused(7),
-        TransferTime::TooShort => Brought::Refused(8),
-        TransferTime::Refused(n) => Brought::Refused(n),
+        TransferTime::TooLong => Err(Refusal::TooLong),
+        TransferTime::TooShort => Err(Refusal::TooShort),
+        TransferTime::Refused(refusal) => Err(refusal),
     }
 }
 
@@ -80,10 +69,7 @@ fn in_line(mu: f64, s: State, g: Angle) -> Brought
 fn margin(body: u64) -> f64
     ensures { result ≡ margin_of body }
 {
-    if body == 0 {
-        return 157420.0;
-    }
-    10668.0
+    if body == 0 { 157420.0 } else { 10668.0 }
 }
 
 fn is_clear(k: Centre, near: f64) -> bool
@@ -93,90 +79,73 @@ fn is_clear(k: Centre, near: f64) -> bool
 }
 
 // The answer, unless the apsides are refused or the pericentre is too low.
-fn cleared(k: Centre, change: Vector, a: Apsides) -> Burn
+fn cleared(k: Centre, change: Vector, a: Apsides) -> Result<Burn, Refusal>
     ensures { result ≡ cleared_of k change a }
 {
     match a {
         Apsides::Closed(near, far) => {
             if is_clear(k, near) {
-                return Burn::Closed(change, near, far);
+                return Ok(Burn::Closed(change, near, far));
             }
-            Burn::Refused(28)
+            Err(Refusal::TooLow)
         }
         Apsides::Open(near) => {
             if is_clear(k, near) {
-                return Burn::Open(change, near);
+                return Ok(Burn::Open(change, near));
             }
-            Burn::Refused(28)
+            Err(Refusal::TooLow)
         }
-        Apsides::Refused(n) => Burn::Refused(n),
+        Apsides::Refused(refusal) => Err(refusal),
     }
 }
 
 // The change to a new velocity, and the apsides after it.
-fn changed(k: Centre, active: State, new: Vector) -> Burn
+fn changed(k: Centre, active: State, new: Vector) -> Result<Burn, Refusal>
     ensures { result ≡ changed_of k active new }
 {
-    let change = vector::difference(new, vector::velocity(active));
-    let after = vector::state_of(vector::position(active), new);
+    let change = new - active.velocity();
+    let after = State::new(active.position(), new);
     cleared(k, change, apsides::periapo(k.mu, after))
 }
 
-fn sped(k: Centre, active: State, v: Speeds) -> Burn
+fn sped(k: Centre, active: State, v: Speeds) -> Result<Burn, Refusal>
     ensures { result ≡ sped_of k active v }
 {
     if 0.0 <= v.radicand {
         return changed(k, active, coelliptic::new_velocity(active, v));
     }
-    Burn::Refused(27)
+    Err(Refusal::NoSpeed)
 }
 
 // On the orbit with the semimajor axis aa, at the distance ra.
-fn beside(k: Centre, active: State, p: Passive, ra: f64, aa: f64) -> Burn
+fn beside(k: Centre, active: State, p: Passive, ra: f64, aa: f64) -> Result<Burn, Refusal>
     ensures { result ≡ beside_of k active p ra aa }
 {
     if (0.0 < p.alpha) & (0.0 < p.a) & (0.0 < aa) {
         return sped(k, active, coelliptic::speeds_of(k.mu, p, ra, aa));
     }
-    Burn::Refused(26)
+    Err(Refusal::NoOrbit)
 }
 
-fn coelliptic_of(k: Centre, active: State, p: Passive) -> Burn
+fn coelliptic_of(k: Centre, active: State, p: Passive) -> Result<Burn, Refusal>
     ensures { result ≡ coelliptic_of k active p }
 {
-    let ra = vector::length(vector::position(active));
+    let ra = active.position().length();
     beside(k, active, p, ra, coelliptic::axis(p, ra))
 }
 
-fn from_point(k: Centre, active: State, c: Brought) -> Burn
-    ensures { result ≡ from_point k active c }
+// Both are of the burn's time.
+fn from_both(k: Centre, active: State, passive: State) -> Result<Burn, Refusal>
+    ensures { result ≡ from_passive k active (Ok passive) }
 {
-    match c {
-        Brought::Moved(s) => coelliptic_of(k, active, coelliptic::passive_of(k.mu, s)),
-        Brought::Refused(n) => Burn::Refused(n),
-    }
-}
-
-fn from_passive(k: Centre, active: State, p: Brought) -> Burn
-    ensures { result ≡ from_passive k active p }
-{
-    match p {
-        Brought::Moved(s) => from_point(
-            k,
-            active,
-            in_line(k.mu, s, coelliptic::angle_of(active, s)),
-        ),
-        Brought::Refused(n) => Burn::Refused(n),
-    }
+    let point = in_line(k.mu, passive, coelliptic::angle_of(active, passive))?;
+    coelliptic_of(k, active, coelliptic::passive_of(k.mu, point))
 }
 
 fn radius_allowed(radius: f64) -> bool
     ensures { result ≡ radius_allowed radius }
 {
-    match rows::radius_row(Test::Passed, radius) {
-        Test::Passed => true,
-        Test::Failed(_) => false,
-    }
+    matches!(rows::radius_row(radius), Ok(()))
 }
 
 // The burn at t2 of the active vehicle, whose state is of the time ta, under the passive one, whose state is of tp; t3 is
@@ -189,20 +158,19 @@ pub fn constant_height(
     tp: i64,
     t2: i64,
     t3: i64,
-) -> Burn
+) -> Result<Burn, Refusal>
     ensures { result ≡ burn_of k active ta passive tp t2 t3 }
 {
     if k.body > 1 {
-        return Burn::Refused(14);
+        return Err(Refusal::NotAllowed);
     }
     if !radius_allowed(k.radius) {
-        return Burn::Refused(22);
+        return Err(Refusal::SettingOutOfRange);
     }
     if !elapsed::at_least(t2, t3, 60000) {
-        return Burn::Refused(25);
+        return Err(Refusal::TooSoon);
     }
-    match at_time(k.mu, active, ta, t2) {
-        Brought::Moved(a) => from_passive(k, a, at_time(k.mu, passive, tp, t2)),
-        Brought::Refused(n) => Burn::Refused(n),
-    }
+    let a = at_time(k.mu, active, ta, t2)?;
+    let p = at_time(k.mu, passive, tp, t2)?;
+    from_both(k, a, p)
 }

@@ -1,5 +1,8 @@
 -- Every line fits 512 bytes. Assumes nothing.
 use Prim.Native.Nat.{◌≤◌}
+use Rattle.std.specs.Prelude.{Result, Ok, Err}
+use Rattle.refusal.specs.declared.Refusal.{Refusal}
+use Rattle.refusal.specs.Refusals.{number_of}
 use native.Mathlib.Omega.{arith}
 use mathlib.Core.List.{[], ◌∷◌}
 use lib.ListN.{length-append}
@@ -9,8 +12,8 @@ use Rattle.text.proofs.Lays.{size, concat-append}
 use Rattle.columns.proofs.RowLaws.{end_short, labelled-short, refused-fits}
 use Rattle.vector.specs.declared.Vector.{Vector}
 use Rattle.burn.specs.declared.Burn.{Burn}
-use Rattle.burn.specs.declared.Burn.TheVariants.{Closed, Open, Refused}
-use Rattle.changes.specs.Changes.{closed_pieces, open_pieces, burn_pieces}
+use Rattle.burn.specs.declared.Burn.TheVariants.{Closed, Open}
+use Rattle.changes.specs.Changes.{closed_pieces, open_pieces, change_pieces, burn_pieces}
 
 closed-short : (d : Vector) (near far : Float) → size (closed_pieces d near far) ≤ 512
 unfolding closed_pieces
@@ -35,7 +38,10 @@ open-short d near =
       end_short (d.x ∷ d.y ∷ d.z ∷ near ∷ []),
     ))
 
-pub burn-fits : (a : Burn) → size (burn_pieces a) ≤ 512
-burn-fits (Closed d near far) = closed-short d near far
-burn-fits (Open d near) = open-short d near
-burn-fits (Refused n) = refused-fits n
+change-fits : (b : Burn) → size (change_pieces b) ≤ 512
+change-fits (Closed d near far) = closed-short d near far
+change-fits (Open d near) = open-short d near
+
+pub burn-fits : (a : Result Burn Refusal) → size (burn_pieces a) ≤ 512
+burn-fits (Ok b) = change-fits b
+burn-fits (Err r) = refused-fits (number_of r)

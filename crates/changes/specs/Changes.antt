@@ -1,10 +1,12 @@
 -- The answer of the constant-height burn as a line, piece by piece. Assumes nothing: these are definitions.
-use Rattle.std.specs.Prelude.{ℕ, List, [], ◌∷◌, ◌++◌, Float}
+use Rattle.std.specs.Prelude.{ℕ, List, [], ◌∷◌, ◌++◌, Float, Result, Ok, Err}
+use Rattle.refusal.specs.declared.Refusal.{Refusal}
+use Rattle.refusal.specs.Refusals.{number_of}
 use Rattle.text.specs.Text.{ascii}
 use Rattle.columns.specs.Rows.{labelled_pieces, end_pieces, refused_pieces}
 use Rattle.vector.specs.declared.Vector.{Vector}
 use Rattle.burn.specs.declared.Burn.{Burn}
-use Rattle.burn.specs.declared.Burn.TheVariants.{Closed, Open, Refused}
+use Rattle.burn.specs.declared.Burn.TheVariants.{Closed, Open}
 
 -- `change D D D closed near D far D bits X X X X X`
 unfoldable pub closed_pieces : Vector → Float → Float → List (List ℕ)
@@ -19,7 +21,10 @@ open_pieces d near =
     labelled_pieces (ascii "change") (d.x ∷ d.y ∷ d.z ∷ [])
     ++ (labelled_pieces (ascii " open near") (near ∷ []) ++ end_pieces (d.x ∷ d.y ∷ d.z ∷ near ∷ []))
 
-abbrev pub burn_pieces : Burn → List (List ℕ)
-burn_pieces (Closed d near far) = closed_pieces d near far
-burn_pieces (Open d near) = open_pieces d near
-burn_pieces (Refused n) = refused_pieces n
+abbrev pub change_pieces : Burn → List (List ℕ)
+change_pieces (Closed d near far) = closed_pieces d near far
+change_pieces (Open d near) = open_pieces d near
+
+abbrev pub burn_pieces : Result Burn Refusal → List (List ℕ)
+burn_pieces (Ok b) = change_pieces b
+burn_pieces (Err r) = refused_pieces (number_of r)

@@ -3,9 +3,10 @@
 #![tactic(auto)]
 
 ghost use Rattle.text.specs.Pieces.{Laid};
-ghost use Rattle.changes.specs.Changes.{closed_pieces, open_pieces, burn_pieces};
+ghost use Rattle.changes.specs.Changes.{closed_pieces, open_pieces, change_pieces, burn_pieces};
 
 use burn::Burn;
+use refusal::Refusal;
 use vector::Vector;
 
 fn closed(buf: &mut [u8], d: Vector, near: f64, far: f64) -> usize
@@ -32,13 +33,21 @@ fn open(buf: &mut [u8], d: Vector, near: f64) -> usize
     columns::end(buf, b, &all)
 }
 
+fn change(buf: &mut [u8], b: Burn) -> usize
+    ensures { Laid buf.old 0 (change_pieces b) buf.new result }
+{
+    match b {
+        Burn::Closed(change, near, far) => closed(buf, change, near, far),
+        Burn::Open(change, near) => open(buf, change, near),
+    }
+}
+
 // The burn's.
-pub fn tell_burn(buf: &mut [u8], a: Burn) -> usize
+pub fn tell_burn(buf: &mut [u8], a: Result<Burn, Refusal>) -> usize
     ensures { Laid buf.old 0 (burn_pieces a) buf.new result }
 {
     match a {
-        Burn::Closed(change, near, far) => closed(buf, change, near, far),
-        Burn::Open(change, near) => open(buf, change, near),
-        Burn::Refused(n) => columns::refused(buf, n),
+        Ok(b) => change(buf, b),
+        Err(refusal) => columns::refused(buf, refusal),
     }
 }

@@ -33,21 +33,21 @@ pub struct Speeds {
 fn unit(a: Vector) -> Vector
     ensures { result ≡ unit_of a }
 {
-    vector::divided(a, vector::length(a))
+    a / a.length()
 }
 
 // The unit normal of a state's plane: r×v made length 1.
 fn normal(s: State) -> Vector
     ensures { result ≡ normal_of s }
 {
-    unit(vector::cross(vector::position(s), vector::velocity(s)))
+    unit(s.position().cross(s.velocity()))
 }
 
 // r projected into the plane of the unit normal n.
 fn projected(r: Vector, n: Vector) -> Vector
     ensures { result ≡ projected_of r n }
 {
-    vector::difference(r, vector::scaled(vector::dot(r, n), n))
+    r - r.dot(n) * n
 }
 
 // The sine and the cosine from one unit vector to another, about n.
@@ -55,8 +55,8 @@ fn turned_by(up: Vector, ua: Vector, n: Vector) -> Angle
     ensures { result ≡ turned_by up ua n }
 {
     Angle {
-        sin: vector::dot(vector::cross(up, ua), n),
-        cos: vector::dot(up, ua),
+        sin: up.cross(ua).dot(n),
+        cos: up.dot(ua),
     }
 }
 
@@ -65,19 +65,19 @@ pub fn angle_of(active: State, passive: State) -> Angle
     ensures { result ≡ angle_of active passive }
 {
     let n = normal(passive);
-    let ua = unit(projected(vector::position(active), n));
-    turned_by(unit(vector::position(passive)), ua, n)
+    let ua = unit(projected(active.position(), n));
+    turned_by(unit(passive.position()), ua, n)
 }
 
 // The passive orbit at the point in line c.
 pub fn passive_of(mu: f64, c: State) -> Passive
     ensures { result ≡ passive_of mu c }
 {
-    let position = vector::position(c);
-    let velocity = vector::velocity(c);
-    let r = vector::length(position);
+    let position = c.position();
+    let velocity = c.velocity();
+    let r = position.length();
     let alpha = (1.0 - conic::c2(r, velocity, mu)) / r;
-    let radial = vector::dot(position, velocity) / r;
+    let radial = position.dot(velocity) / r;
     Passive {
         r,
         alpha,
@@ -107,11 +107,8 @@ pub fn speeds_of(mu: f64, p: Passive, ra: f64, aa: f64) -> Speeds
 pub fn new_velocity(active: State, v: Speeds) -> Vector
     ensures { result ≡ new_of active v }
 {
-    let w = unit(vector::position(active));
-    let across = vector::cross(normal(active), w);
+    let w = unit(active.position());
+    let across = normal(active).cross(w);
     let horizontal = root::square_root(v.radicand);
-    vector::sum(
-        vector::scaled(v.radial, w),
-        vector::scaled(horizontal, across),
-    )
+    v.radial * w + horizontal * across
 }

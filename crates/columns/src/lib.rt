@@ -5,7 +5,10 @@
 
 ghost use Rattle.text.specs.Text.{Put};
 ghost use Rattle.text.specs.Pieces.{Laid};
+ghost use Rattle.refusal.specs.Refusals.{number_of};
 ghost use Rattle.columns.specs.Rows.{figure_text, row_pieces, labelled_pieces, end_pieces, counted_pieces, refused_pieces, unread_pieces};
+
+use refusal::Refusal;
 
 // A number to six places, or its bits.
 #[derive(Clone, Copy)]
@@ -28,11 +31,9 @@ pub fn row(buf: &mut [u8], at: usize, style: Style, xs: &[f64]) -> usize
     ensures { Laid buf.old at (row_pieces style xs.now) buf.new result }
 {
     let mut e = at;
-    let mut i = 0;
-    while i < xs.len() {
+    for x in xs {
         e = text::byte(buf, e, b' ');
-        e = figure(buf, e, style, xs[i]);
-        i += 1;
+        e = figure(buf, e, style, *x);
     }
     e
 }
@@ -64,10 +65,10 @@ fn counted(buf: &mut [u8], word: &[u8], n: u64) -> usize
 }
 
 // The line of a refusal.
-pub fn refused(buf: &mut [u8], number: u32) -> usize
-    ensures { Laid buf.old 0 (refused_pieces number) buf.new result }
+pub fn refused(buf: &mut [u8], refusal: Refusal) -> usize
+    ensures { Laid buf.old 0 (refused_pieces (number_of refusal)) buf.new result }
 {
-    counted(buf, b"refused ", number as u64)
+    counted(buf, b"refused ", u64::from(refusal.number()))
 }
 
 // The line of a word that cannot be read.

@@ -1,10 +1,12 @@
 -- The formulas that the conic routines share, in the operations of f64 and in their order. Assumes nothing: these are definitions.
-use Rattle.std.specs.Prelude.{ℕ, cond, List, [], ◌∷◌, ℤ, Float}
+use Rattle.series.specs.declared.Pair.{Pair}
+use Rattle.conic.specs.declared.Point.{Point}
+use Rattle.refusal.specs.declared.Refusal.{Refusal}
+use Rattle.std.specs.Prelude.{ℕ, cond, List, [], ◌∷◌, ℤ, Float, Err, Ok, Result}
+use Rattle.refusal.specs.declared.Refusal.TheVariants as Refusal
 use Rattle.std.specs.Float.{binary64}
 use Rattle.std.specs.Float.Ieee.{of_int}
 use Rattle.real.specs.F64.{◌⊕◌, ◌⊖◌, ◌⊗◌, ◌⊘◌, ◌≤ᶠ◌, two^, two^-, f1}
-use Rattle.series.specs.declared.Both.{Both}
-use Rattle.series.specs.declared.Both.TheVariants.{Values, Refused}
 use Rattle.series.specs.Series.{least_xi, most_xi, both_answer}
 use Rattle.vector.specs.declared.Vector.{Vector}
 use Rattle.table.specs.declared.Name.{Name}
@@ -16,8 +18,6 @@ use Rattle.table.specs.declared.Entry.{Entry}
 use Rattle.vector.specs.Vectors.{dot_of}
 use Rattle.table.specs.Tests.{entry}
 use Rattle.conic.specs.declared.Orbit.{Orbit}
-use Rattle.conic.specs.declared.Trial.{Trial}
-use Rattle.conic.specs.declared.Trial.TheVariants.{Numbers, Stopped}
 
 -- n·2^-20
 abbrev pub grid_of : ℤ → Float
@@ -37,31 +37,31 @@ p_n_of h mu r1 = p_of h mu ⊘ r1
 
 -- 6: |c2| < 2^6, and p_N ≤ 2^4
 abbrev pub c2_row : Float → List Entry
-c2_row c2 = entry 6 C2 Whole c2 (SizeUnder (two^ 6)) ∷ []
+c2_row c2 = entry Refusal.DerivedOutOfRange C2 Whole c2 (SizeUnder (two^ 6)) ∷ []
 
 abbrev pub p_row : Float → List Entry
-p_row pN = entry 6 P Whole pN (AtMost (two^ 4)) ∷ []
+p_row pN = entry Refusal.DerivedOutOfRange P Whole pN (AtMost (two^ 4)) ∷ []
 
 -- 19: p_N < 2^-20, a straight fall
 abbrev pub straight_row : Float → List Entry
-straight_row pN = entry 19 P Whole pN (AtLeast (two^- 20)) ∷ []
+straight_row pN = entry Refusal.StraightFall P Whole pN (AtLeast (two^- 20)) ∷ []
 
 -- t = (c1·(z·c) + x·(c2·(z·s) + r1))/√mu
 abbrev pub time_of : Orbit → Float → Float → Float → Float → Float
 time_of o x z c s = (o.c1 ⊗ (z ⊗ c) ⊕ x ⊗ (o.c2 ⊗ (z ⊗ s) ⊕ o.r1)) ⊘ o.rootmu
 
 -- a range test that stops a trial: 7 where it is over, 8 where it is under
-abbrev pub range_test : ℕ → Name → Float → Limit → Entry
-range_test number name amount limit = entry number name Whole amount limit
+abbrev pub range_test : Refusal → Name → Float → Limit → Entry
+range_test refusal name amount limit = entry refusal name Whole amount limit
 
 -- −50 ≤ ξ ≤ 40: the first of the two that a ξ outside fails
 unfoldable pub outside_of : Float → Entry
-outside_of xi = cond (least_xi ≤ᶠ xi) (range_test 7 Xi xi (AtMost most_xi)) (range_test 7 Xi xi (AtLeast least_xi))
+outside_of xi = cond (least_xi ≤ᶠ xi) (range_test Refusal.TooLong Xi xi (AtMost most_xi)) (range_test Refusal.TooLong Xi xi (AtLeast least_xi))
 
 -- the trial's numbers from c and s: none where ξ is outside its range
-unfoldable pub trial_of : Orbit → Float → Float → Both → Trial
-trial_of o x xi (Refused n) = Stopped (outside_of xi)
-trial_of o x xi (Values p) = Numbers (record { x = x; z = x ⊗ x; xi = xi; c = p.c; s = p.s; t = time_of o x (x ⊗ x) p.c p.s })
+unfoldable pub trial_of : Orbit → Float → Float → Result Pair Refusal → Result Point Entry
+trial_of o x xi (Err n) = Err (outside_of xi)
+trial_of o x xi (Ok p) = Ok (record { x = x; z = x ⊗ x; xi = xi; c = p.c; s = p.s; t = time_of o x (x ⊗ x) p.c p.s })
 
-unfoldable pub point_at : Orbit → Float → Float → Trial
+unfoldable pub point_at : Orbit → Float → Float → Result Point Entry
 point_at o x xi = trial_of o x xi (both_answer xi)

@@ -5,8 +5,8 @@ ghost use Rattle.std.specs.Prelude.{◌≡◌};
 ghost use Rattle.table.specs.Tests.{◌▷◌};
 ghost use Rattle.conic.specs.Conic.{grid_of, c2_of, p_of, p_n_of, c2_row, p_row, straight_row, time_of, range_test, outside_of, point_at};
 
-use series::Both;
-use table::{Entry, Limit, Name, Part, Test};
+use refusal::Refusal;
+use table::{Entry, Limit, Name, Part};
 use vector::Vector;
 
 // What the trials of one solve share.
@@ -29,13 +29,6 @@ pub struct Point {
     pub t: f64,
 }
 
-// A trial's numbers, or the range test of ξ that fails.
-#[derive(Clone, Copy)]
-pub enum Trial {
-    Numbers(Point),
-    Stopped(Entry),
-}
-
 // n·2^-20: the grid of Kepler's x and of Lambert's cot.
 pub fn grid(n: i64) -> f64
     ensures { result ≡ grid_of n }
@@ -47,14 +40,14 @@ pub fn grid(n: i64) -> f64
 pub fn c2(r1: f64, v: Vector, mu: f64) -> f64
     ensures { result ≡ c2_of r1 v mu }
 {
-    r1 * vector::dot(v, v) / mu - 1.0
+    r1 * v.dot(v) / mu - 1.0
 }
 
 // p of a state, from h = r×v.
 pub fn p(h: Vector, mu: f64) -> f64
     ensures { result ≡ p_of h mu }
 {
-    vector::dot(h, h) / mu
+    h.dot(h) / mu
 }
 
 // p_N of a state: p over r1 = |r|.
@@ -65,24 +58,42 @@ pub fn pn(h: Vector, mu: f64, r1: f64) -> f64
 }
 
 // Row 6 for c2: |c2| < 2^6.
-pub fn c2_row(t: Test, c2: f64) -> Test
-    ensures { result ≡ t ▷ c2_row c2 }
+pub fn c2_row(c2: f64) -> Result<(), Entry>
+    ensures { result ≡ Ok tt ▷ c2_row c2 }
 {
-    table::size_under(t, 6, Name::C2, Part::Whole, c2, 64.0)
+    table::test(
+        Refusal::DerivedOutOfRange,
+        Name::C2,
+        Part::Whole,
+        c2,
+        Limit::SizeUnder(64.0),
+    )
 }
 
 // Row 6 for p_N = p/r: p_N ≤ 2^4.
-pub fn p_row(t: Test, pn: f64) -> Test
-    ensures { result ≡ t ▷ p_row pn }
+pub fn p_row(pn: f64) -> Result<(), Entry>
+    ensures { result ≡ Ok tt ▷ p_row pn }
 {
-    table::at_most(t, 6, Name::P, Part::Whole, pn, 16.0)
+    table::test(
+        Refusal::DerivedOutOfRange,
+        Name::P,
+        Part::Whole,
+        pn,
+        Limit::AtMost(16.0),
+    )
 }
 
 // Row 19: 2^-20 ≤ p_N. Under it a state has almost no sideways speed, and falls straight.
-pub fn straight_row(t: Test, pn: f64) -> Test
-    ensures { result ≡ t ▷ straight_row pn }
+pub fn straight_row(pn: f64) -> Result<(), Entry>
+    ensures { result ≡ Ok tt ▷ straight_row pn }
 {
-    table::at_least(t, 19, Name::P, Part::Whole, pn, 9.5367431640625e-7)
+    table::test(
+        Refusal::StraightFall,
+        Name::P,
+        Part::Whole,
+        pn,
+        Limit::AtLeast(9.5367431640625e-7),
+    )
 }
 
 // The time at x, with c and s at its ξ and z = x·x.
@@ -93,11 +104,11 @@ fn time(o: Orbit, x: f64, z: f64, c: f64, s: f64) -> f64
 }
 
 // A range test that stops a trial: 7 where it is over, 8 where it is under.
-pub fn range_test(number: u32, name: Name, amount: f64, limit: Limit) -> Entry
-    ensures { result ≡ range_test number name amount limit }
+pub fn range_test(refusal: Refusal, name: Name, amount: f64, limit: Limit) -> Entry
+    ensures { result ≡ range_test refusal name amount limit }
 {
     Entry {
-        number,
+        refusal,
         name,
         part: Part::Whole,
         amount,
@@ -110,21 +121,21 @@ fn outside(xi: f64) -> Entry
     ensures { result ≡ outside_of xi }
 {
     if -50.0 <= xi {
-        return range_test(7, Name::Xi, xi, Limit::AtMost(40.0));
+        return range_test(Refusal::TooLong, Name::Xi, xi, Limit::AtMost(40.0));
     }
-    range_test(7, Name::Xi, xi, Limit::AtLeast(-50.0))
+    range_test(Refusal::TooLong, Name::Xi, xi, Limit::AtLeast(-50.0))
 }
 
 // The numbers of the trial at x, whose ξ is given.
-pub fn point_at(o: Orbit, x: f64, xi: f64) -> Trial
+pub fn point_at(o: Orbit, x: f64, xi: f64) -> Result<Point, Entry>
     ensures { result ≡ point_at o x xi }
 {
     let z = x * x;
-    let Both::Values(p) = series::c_and_s(xi) else {
-        return Trial::Stopped(outside(xi));
+    let Ok(p) = series::c_and_s(xi) else {
+        return Err(outside(xi));
     };
     let t = time(o, x, z, p.c, p.s);
-    Trial::Numbers(Point {
+    Ok(Point {
         x,
         z,
         xi,

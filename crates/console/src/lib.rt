@@ -100,28 +100,19 @@ pub fn read_whole<R: Read>(rt: &impl Eprint, from: &mut R, name: &[u8], buf: &mu
     ensures end { result.failed ≡ false → result.length < length buf.new → IsAtEnd (R.remaining from.new) }
 {
     let mut length = 0;
+    let mut failed = false;
     while length < buf.len() {
         match read_behind(from, buf, length) {
-            Ok(0) => {
-                return Input {
-                    length,
-                    failed: false,
-                };
-            }
+            Ok(0) => break,
             Ok(n) => length += n,
             Err(why) => {
                 fail(rt, name, why);
-                return Input {
-                    length,
-                    failed: true,
-                };
+                failed = true;
+                break;
             }
         }
     }
-    Input {
-        length,
-        failed: false,
-    }
+    Input { length, failed }
 }
 
 // One read of standard input: what is there, or no byte at its end. Where the read fails standard error says so.
@@ -161,11 +152,10 @@ pub fn arg_count(rt: &impl Env) -> usize
 pub fn arg(rt: &impl Env, i: usize, buf: &mut [u8]) -> io::Result<usize>
     ensures { IfOk result (λ n. IsPrefixLen n buf.new) }
 {
-    match rt.arg(i, buf) {
-        Ok(n) => Ok(n),
-        Err(FillError::NotPresent) => Err(Error::from_raw_os_error(NO_WORD)),
-        Err(FillError::TooLong) => Err(Error::from_raw_os_error(TOO_LONG)),
-    }
+    rt.arg(i, buf).map_err(|why| match why {
+        FillError::NotPresent => Error::from_raw_os_error(NO_WORD),
+        FillError::TooLong => Error::from_raw_os_error(TOO_LONG),
+    })
 }
 
 // Opens the file that word 1 of the command names, with the name at the front of a lent buffer; where that goes wrong

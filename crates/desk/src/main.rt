@@ -9,7 +9,6 @@ ghost use Rattle.desk.specs.Keeps.{Inside, Keeps};
 use console::Named;
 use split::Found;
 use std::io::Read;
-use text::Made;
 
 // How much of a line is kept: one byte more than it may have, so that a longer one is known as such.
 const KEPT: usize = 1001;
@@ -21,20 +20,19 @@ const USED: usize = 2817;
 fn answer(rt: &(impl Print + Eprint), used: &[u8], line: &[u8]) -> bool {
     let mut out = [0u8; 512];
     match reply::reply(used, line, &mut out) {
-        Made::Line(n) => console::print(rt, &out[..n]),
-        Made::Refused(_) => false,
+        Ok(n) => console::print(rt, &out[..n]),
+        Err(_) => false,
     }
 }
 
-// What comes of some input: the bytes kept of a line whose newline is still to come, or the end.
-#[derive(Clone, Copy)]
-enum Fed {
-    Kept(usize),
-    Stopped,
-}
-
 // Answers the lines that end in the input.
-fn feed(rt: &(impl Print + Eprint), used: &[u8], input: &[u8], line: &mut [u8], kept: usize) -> Fed
+fn feed(
+    rt: &(impl Print + Eprint),
+    used: &[u8],
+    input: &[u8],
+    line: &mut [u8],
+    kept: usize,
+) -> Option<usize>
     requires { kept ≤ length line.old }
     ensures { Inside result (length line.new) × Keeps input.now line.old kept line.new result }
 {
@@ -44,12 +42,12 @@ fn feed(rt: &(impl Print + Eprint), used: &[u8], input: &[u8], line: &mut [u8], 
         match split::next_line(line, k, input, from) {
             Found::Line(n, at) => {
                 if !answer(rt, used, &line[..n]) {
-                    return Fed::Stopped;
+                    return None;
                 }
                 k = 0;
                 from = at;
             }
-            Found::Kept(n) => return Fed::Kept(n),
+            Found::Kept(n) => return Some(n),
         }
     }
 }
@@ -61,20 +59,20 @@ fn take_some(
     used: &[u8],
     line: &mut [u8],
     kept: usize,
-) -> Fed
+) -> Option<usize>
     requires { kept ≤ length line.old }
     ensures { Inside result (length line.new) }
 {
     let mut input = [0u8; 65536];
     let got = console::read_some(rt, from, &mut input);
     if got.failed {
-        return Fed::Stopped;
+        return None;
     }
     if got.length == 0 {
         if kept > 0 {
             answer(rt, used, &line[..kept]);
         }
-        return Fed::Stopped;
+        return None;
     }
     feed(rt, used, &input[..got.length], line, kept)
 }
@@ -85,7 +83,7 @@ fn serve(rt: &(impl Print + Eprint), from: &mut impl Read, used: &[u8]) {
     let mut line = [0u8; KEPT];
     let mut kept = 0;
     for _ in 0..u64::MAX {
-        let Fed::Kept(k) = take_some(rt, from, used, &mut line, kept) else {
+        let Some(k) = take_some(rt, from, used, &mut line, kept) else {
             return;
         };
         kept = k;

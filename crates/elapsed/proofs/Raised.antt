@@ -1,8 +1,8 @@
 -- A difference of two whole times is the difference of the two raised by 2^63. Assumes nothing.
-use Rattle.std.proofs.Common.{◌≡◌, ℕ, zero, suc, ◌+◌, ◌-◌, ◌^◌, ◌<◌, ◌≤◌, Bool, true, false, cond, T, ltb, leb, ℤ, pos, negsuc, ◌-ℤ◌, nat_abs, sym, refl, ap, ◌∙◌, true≢false, arith, ltb-false, ltb-true, le-ltb, lt-ltb}
+use Rattle.std.proofs.Common.{◌≡◌, ℕ, zero, suc, ◌+◌, ◌-◌, ◌^◌, ◌<◌, ◌≤◌, Bool, true, false, cond, ltb, ℤ, pos, negsuc, ◌-ℤ◌, sym, refl, ap, ◌∙◌, arith, ltb-false, ltb-true, le-ltb, lt-ltb}
 use lib.IntN.{sub_ℕ}
-use lib.Signed.{mag, le_z, lt_z, non_neg}
-use Rattle.elapsed.specs.Elapsed.{raised, apart_of}
+use lib.Signed.{mag}
+use Rattle.elapsed.specs.Elapsed.{raised}
 
 -- ---- a difference of two natural numbers
 
@@ -31,19 +31,6 @@ sub_same x y a b e = go (ltb a b) refl
     go true h = sub-neg x y (b - suc a) (below x y a b e (ltb-true a b h))
     go false h = sub-pos x y (a - b) (above x y a b e (ltb-false a b h))
 
-pub sub-apart : (x y : ℕ) → nat_abs (sub_ℕ x y) ≡ apart_of y x
-sub-apart x y = go (ltb x y) refl
-  where
-    below : (x y : ℕ) → x < y → suc (y - suc x) ≡ (y - x) + (x - y)
-    below x y h = omega arith
-
-    above : (x y : ℕ) → y ≤ x → x - y ≡ (y - x) + (x - y)
-    above x y h = omega arith
-
-    go : (t : Bool) → ltb x y ≡ t → nat_abs (cond t (negsuc (y - suc x)) (pos (x - y))) ≡ (y - x) + (x - y)
-    go true h = below x y (ltb-true x y h)
-    go false h = above x y (ltb-false x y h)
-
 -- ---- the times
 
 pub difference : (a b : ℤ) → mag a < 2 ^ 63 → mag b < 2 ^ 63 → b -ℤ a ≡ sub_ℕ (raised b) (raised a)
@@ -54,54 +41,3 @@ difference (pos zero) (negsuc n) h k = sub_same 0 (suc n) (2 ^ 63 - (1 + n)) (2 
 difference (pos (suc m)) (negsuc n) h k = sym (sub-neg (2 ^ 63 - (1 + n)) (2 ^ 63 + suc m) (suc (n + m)) (omega arith))
 difference (negsuc m) (pos n) h k = sym (sub-pos (2 ^ 63 + n) (2 ^ 63 - (1 + m)) (n + suc m) (omega arith))
 difference (negsuc m) (negsuc n) h k = sub_same (suc m) (suc n) (2 ^ 63 - (1 + n)) (2 ^ 63 - (1 + m)) (omega arith)
-
--- a number is no larger than its size
-pub mag-size : (z : ℤ) → mag z ≤ nat_abs z
-mag-size (pos n) = omega arith
-mag-size (negsuc n) = omega arith
-
--- ---- what the code does with them
-
--- −1 − t, for a t below 0
-pub flipped : (z : ℤ) → lt_z z (pos 0) ≡ true → negsuc 0 -ℤ z ≡ pos (mag z)
-flipped (pos n) h = absurd (not-below n (ltb-true n 0 h))
-  where
-    not-below : (n : ℕ) → n < 0 → ⊥
-    not-below n h = omega arith
-flipped (negsuc n) h = sub-pos (suc n) 1 n (omega arith)
-
-pub raised_below : (z : ℤ) → lt_z z (pos 0) ≡ true → 9223372036854775807 - mag z ≡ raised z
-unfolding raised
-raised_below (pos n) h = absurd (not-below n (ltb-true n 0 h))
-  where
-    not-below : (n : ℕ) → n < 0 → ⊥
-    not-below n h = omega arith
-raised_below (negsuc n) h = plain n
-  where
-    plain : (n : ℕ) → 9223372036854775807 - n ≡ 2 ^ 63 - (1 + n)
-    plain n = omega arith
-
-pub raised-above : (z : ℤ) → lt_z z (pos 0) ≡ false → 9223372036854775808 + nat_abs z ≡ raised z
-unfolding raised
-raised-above (pos n) h = refl
-raised-above (negsuc n) h = absurd (true≢false h)
-
-pub above_zero : (z : ℤ) → lt_z z (pos 0) ≡ false → T (non_neg z) × (nat_abs z ≡ mag z)
-above_zero (pos n) h = (tt, refl)
-above_zero (negsuc n) h = absurd (true≢false h)
-
-pub size_is : (a b : ℤ) → mag a < 2 ^ 63 → mag b < 2 ^ 63 → nat_abs (b -ℤ a) ≡ apart_of (raised a) (raised b)
-size_is a b h k = ap nat_abs (difference a b h k) ∙ sub-apart (raised b) (raised a)
-
--- at least n, where the later is raised less and where it is not
-pub least-earlier : (a b : ℤ) (n : ℕ) → mag a < 2 ^ 63 → mag b < 2 ^ 63 → ltb (raised b) (raised a) ≡ true → le_z (pos n) (b -ℤ a) ≡ false
-least-earlier a b n h k e =
-    let x = raised b in
-    let y = raised a in
-    ap (le_z (pos n)) (difference a b h k ∙ ap (λ (t : Bool). cond t (negsuc (y - suc x)) (pos (x - y))) e)
-
-pub least-later : (a b : ℤ) (n : ℕ) → mag a < 2 ^ 63 → mag b < 2 ^ 63 → ltb (raised b) (raised a) ≡ false → le_z (pos n) (b -ℤ a) ≡ leb n (raised b - raised a)
-least-later a b n h k e =
-    let x = raised b in
-    let y = raised a in
-    ap (le_z (pos n)) (difference a b h k ∙ ap (λ (t : Bool). cond t (negsuc (y - suc x)) (pos (x - y))) e)

@@ -2,53 +2,21 @@
 #![tactic(auto)]
 
 ghost use Rattle.std.specs.Prelude.{◌≡◌};
-ghost use Rattle.elapsed.specs.Elapsed.{raised, apart_of, at_least, elapsed_of};
-
-// The time in cs, or that it is over 2^28 in size.
-#[derive(Clone, Copy)]
-pub enum Elapsed {
-    Cs(f64),
-    TooLong,
-}
-
-// t + 2^63, which is never negative.
-fn raise(t: i64) -> u64
-    ensures { result ≡ raised t }
-{
-    if t < 0 {
-        return 9223372036854775807 - ((-1 - t) as u64);
-    }
-    9223372036854775808 + (t as u64)
-}
-
-// How far apart two times are.
-fn apart(from: u64, to: u64) -> u64
-    ensures { result ≡ apart_of from to }
-{
-    if from < to {
-        return to - from;
-    }
-    from - to
-}
+ghost use Rattle.elapsed.specs.Elapsed.{at_least, elapsed_of};
 
 // to − from is at least so many cs.
 pub fn at_least(from: i64, to: i64, cs: u64) -> bool
     ensures { result ≡ at_least from to cs }
 {
-    let a = raise(from);
-    let b = raise(to);
-    if b < a {
-        return false;
-    }
-    cs <= b - a
+    from <= to && cs <= to.abs_diff(from)
 }
 
 // to − from.
-pub fn between(from: i64, to: i64) -> Elapsed
+pub fn between(from: i64, to: i64) -> Option<f64>
     ensures { result ≡ elapsed_of from to }
 {
-    if apart(raise(from), raise(to)) > 268435456 {
-        return Elapsed::TooLong;
+    if to.abs_diff(from) > 268435456 {
+        return None;
     }
-    Elapsed::Cs(std::num::nearest_i64_to_f64(to - from))
+    Some(std::num::nearest_i64_to_f64(to - from))
 }

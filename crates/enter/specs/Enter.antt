@@ -1,16 +1,15 @@
 -- What entering a line into a session does. Assumes nothing: these are definitions.
-use Rattle.std.specs.Prelude.{ℕ, List, ℤ, Float}
+use Rattle.refusal.specs.declared.Refusal.{Refusal}
+use Rattle.std.specs.Prelude.{ℕ, List, ℤ, Float, Err, Ok, Result}
 use Rattle.vector.specs.declared.Vector.{Vector}
 use Rattle.vector.specs.declared.State.{State}
 use Rattle.session.specs.declared.record.Record.{Record}
 use Rattle.session.specs.declared.record.Record.TheVariants as R
-use Rattle.writer.specs.declared.record.Written.{Written}
-use Rattle.writer.specs.declared.record.Written.TheVariants as W
 use Rattle.writer.specs.Write.{written_of, buffer_of, offset_written, offset_buffer}
 use Rattle.entry.specs.declared.line.Entry.{Entry}
 use Rattle.entry.specs.declared.line.Entry.TheVariants as E
-use Rattle.enter.specs.declared.Entered.{Entered}
-use Rattle.enter.specs.declared.Entered.TheVariants.{Next, Refused, Unread}
+use Rattle.enter.specs.declared.Fault.{Fault}
+use Rattle.enter.specs.declared.Fault.TheVariants.{Refused, Unread}
 
 -- the record of what a line says, whether it is allowed or not
 abbrev pub state_record : ℤ → ℕ → ℕ → State → Record
@@ -22,24 +21,31 @@ burn_record t v d = R.Burn (record { vehicle = v; time = t; change = d })
 abbrev pub mark_record : ℤ → ℕ → Float → Float → Record
 mark_record t v x y = R.Mark (record { vehicle = v; time = t; range = x; rate = y })
 
-abbrev pub as_entered : Written → Entered
-as_entered (W.Next n) = Next n
-as_entered (W.Refused n) = Refused n
-
--- what is answered: that of the writer, the same place where nothing is said, the word that cannot be read
-abbrev pub entered_of : List ℕ → ℕ → Entry → Entered
-entered_of d at E.Nothing = Next at
-entered_of d at (E.Offset z) = as_entered (offset_written d at z)
-entered_of d at (E.State t v b s) = as_entered (written_of d at (state_record t v b s))
-entered_of d at (E.Burn t v c) = as_entered (written_of d at (burn_record t v c))
-entered_of d at (E.Mark t v x y) = as_entered (written_of d at (mark_record t v x y))
-entered_of d at (E.Unread w) = Unread w
+-- what is answered of an entry: that of the writer, and the same place where nothing is said
+abbrev pub entry_written : List ℕ → ℕ → Entry → Result ℕ Refusal
+entry_written d at E.Nothing = Ok at
+entry_written d at (E.Offset z) = offset_written d at z
+entry_written d at (E.State t v b s) = written_of d at (state_record t v b s)
+entry_written d at (E.Burn t v c) = written_of d at (burn_record t v c)
+entry_written d at (E.Mark t v x y) = written_of d at (mark_record t v x y)
 
 -- and what becomes of the buffer
-abbrev pub session_of : List ℕ → ℕ → Entry → List ℕ
-session_of d at E.Nothing = d
-session_of d at (E.Offset z) = offset_buffer d at z
-session_of d at (E.State t v b s) = buffer_of d at (state_record t v b s)
-session_of d at (E.Burn t v c) = buffer_of d at (burn_record t v c)
-session_of d at (E.Mark t v x y) = buffer_of d at (mark_record t v x y)
-session_of d at (E.Unread w) = d
+abbrev pub entry_session : List ℕ → ℕ → Entry → List ℕ
+entry_session d at E.Nothing = d
+entry_session d at (E.Offset z) = offset_buffer d at z
+entry_session d at (E.State t v b s) = buffer_of d at (state_record t v b s)
+entry_session d at (E.Burn t v c) = buffer_of d at (burn_record t v c)
+entry_session d at (E.Mark t v x y) = buffer_of d at (mark_record t v x y)
+
+abbrev pub as_entered : Result ℕ Refusal → Result ℕ Fault
+as_entered (Ok n) = Ok n
+as_entered (Err n) = Err (Refused n)
+
+-- of a line, by what it says: the entry's answer, or the word that cannot be read
+abbrev pub entered_of : List ℕ → ℕ → Result Entry ℕ → Result ℕ Fault
+entered_of d at (Ok e) = as_entered (entry_written d at e)
+entered_of d at (Err w) = Err (Unread w)
+
+abbrev pub session_of : List ℕ → ℕ → Result Entry ℕ → List ℕ
+session_of d at (Ok e) = entry_session d at e
+session_of d at (Err w) = d

@@ -2,12 +2,11 @@
 ghost use Rattle.std.specs.Prelude.{◌≡◌};
 ghost use Rattle.entry.specs.Entries.{ended, offset_entry, bodied, state_entry, burn_entry, mark_entry, named_of, entry_of};
 
-use crate::parts::{Pair, Stamp, Triple, pair_at, stamp_at, vector_at};
-use numerals::{Signed, Whole};
+use crate::parts::{pair_at, stamp_at, vector_at};
 use vector::{State, Vector};
 
-// What a line says. A line with no word and a comment say nothing; a line that cannot be read tells its first such word,
-// or 0 for a line of over 1,000 bytes. What is read may still not be allowed: it is as large as its word says.
+// What a line says. A line with no word and a comment say nothing. What is read may still not be allowed: it is as large
+// as its word says.
 #[derive(Clone, Copy)]
 pub enum Entry {
     Nothing,
@@ -29,115 +28,95 @@ pub enum Entry {
         range: f64,
         rate: f64,
     },
-    Unread(u64),
 }
 
 // What is said, if no word stands behind the first k.
-fn only(line: &[u8], k: u32, e: Entry) -> Entry
+#[tactic(auto, unfolding(crate::specs::Entries::ended))]
+fn only(line: &[u8], k: u32, e: Entry) -> Result<Entry, u64>
     ensures { result ≡ ended k line.now e }
 {
-    let at = k as u64;
+    let at = u64::from(k);
     if words::is_end(line, at) {
-        return e;
+        return Ok(e);
     }
-    Entry::Unread(at + 1)
+    Err(at + 1)
 }
 
-fn offset(line: &[u8]) -> Entry
+fn offset(line: &[u8]) -> Result<Entry, u64>
     ensures { result ≡ offset_entry line.now }
 {
-    match numerals::signed_at(line, 1) {
-        Signed::Read(minutes) => only(line, 2, Entry::Offset(minutes)),
-        Signed::Unread => Entry::Unread(2),
-    }
+    let minutes = numerals::signed_at(line, 1).ok_or(2u64)?;
+    only(line, 2, Entry::Offset(minutes))
 }
 
 // A state behind its time and vehicle.
-fn body(line: &[u8], time: i64, vehicle: u64) -> Entry
+fn body(line: &[u8], time: i64, vehicle: u64) -> Result<Entry, u64>
     ensures { result ≡ bodied time vehicle line.now }
 {
-    match numerals::whole_at(line, 3) {
-        Whole::Read(body) => match vector_at(line, 4) {
-            Triple::Read(r) => match vector_at(line, 7) {
-                Triple::Read(v) => {
-                    let state = State {
-                        rx: r.x,
-                        ry: r.y,
-                        rz: r.z,
-                        vx: v.x,
-                        vy: v.y,
-                        vz: v.z,
-                    };
-                    only(
-                        line,
-                        10,
-                        Entry::State {
-                            time,
-                            vehicle,
-                            body,
-                            state,
-                        },
-                    )
-                }
-                Triple::Unread(w) => Entry::Unread(w),
-            },
-            Triple::Unread(w) => Entry::Unread(w),
+    let body = numerals::whole_at(line, 3).ok_or(4u64)?;
+    let r = vector_at(line, 4)?;
+    let v = vector_at(line, 7)?;
+    let state = State {
+        rx: r.x,
+        ry: r.y,
+        rz: r.z,
+        vx: v.x,
+        vy: v.y,
+        vz: v.z,
+    };
+    only(
+        line,
+        10,
+        Entry::State {
+            time,
+            vehicle,
+            body,
+            state,
         },
-        Whole::Unread => Entry::Unread(4),
-    }
+    )
 }
 
-fn state(line: &[u8]) -> Entry
+fn state(line: &[u8]) -> Result<Entry, u64>
     ensures { result ≡ state_entry line.now }
 {
-    match stamp_at(line) {
-        Stamp::Read(time, vehicle) => body(line, time, vehicle),
-        Stamp::Unread(w) => Entry::Unread(w),
-    }
+    let (time, vehicle) = stamp_at(line)?;
+    body(line, time, vehicle)
 }
 
-fn burn(line: &[u8]) -> Entry
+fn burn(line: &[u8]) -> Result<Entry, u64>
     ensures { result ≡ burn_entry line.now }
 {
-    match stamp_at(line) {
-        Stamp::Read(time, vehicle) => match vector_at(line, 3) {
-            Triple::Read(change) => only(
-                line,
-                6,
-                Entry::Burn {
-                    time,
-                    vehicle,
-                    change,
-                },
-            ),
-            Triple::Unread(w) => Entry::Unread(w),
+    let (time, vehicle) = stamp_at(line)?;
+    let change = vector_at(line, 3)?;
+    only(
+        line,
+        6,
+        Entry::Burn {
+            time,
+            vehicle,
+            change,
         },
-        Stamp::Unread(w) => Entry::Unread(w),
-    }
+    )
 }
 
-fn mark(line: &[u8]) -> Entry
+fn mark(line: &[u8]) -> Result<Entry, u64>
     ensures { result ≡ mark_entry line.now }
 {
-    match stamp_at(line) {
-        Stamp::Read(time, vehicle) => match pair_at(line, 3) {
-            Pair::Read(range, rate) => only(
-                line,
-                5,
-                Entry::Mark {
-                    time,
-                    vehicle,
-                    range,
-                    rate,
-                },
-            ),
-            Pair::Unread(w) => Entry::Unread(w),
+    let (time, vehicle) = stamp_at(line)?;
+    let (range, rate) = pair_at(line, 3)?;
+    only(
+        line,
+        5,
+        Entry::Mark {
+            time,
+            vehicle,
+            range,
+            rate,
         },
-        Stamp::Unread(w) => Entry::Unread(w),
-    }
+    )
 }
 
-fn named(name: &[u8], line: &[u8]) -> Entry
+fn named(name: &[u8], line: &[u8]) -> Result<Entry, u64>
     ensures { result ≡ named_of name.now line.now }
 {
     if words::is_word(name, b"offset") {
@@ -152,22 +131,24 @@ fn named(name: &[u8], line: &[u8]) -> Entry
     if words::is_word(name, b"mark") {
         return mark(line);
     }
-    Entry::Unread(1)
+    Err(1)
 }
 
-// What a line says; the line is without its newline.
-pub fn read(line: &[u8]) -> Entry
+// What a line says, or the number of its first word that cannot be read; 0 for a line of over 1,000 bytes. The line is
+// without its newline.
+#[tactic(auto, unfolding(crate::specs::Entries::entry_of))]
+pub fn read(line: &[u8]) -> Result<Entry, u64>
     ensures { result ≡ entry_of line.now }
 {
     if words::starts_with(line, b"#") {
-        return Entry::Nothing;
+        return Ok(Entry::Nothing);
     }
     if line.len() > 1000 {
-        return Entry::Unread(0);
+        return Err(0);
     }
     let name = words::word(line, 0);
-    if name.len() == 0 {
-        return Entry::Nothing;
+    if name.is_empty() {
+        return Ok(Entry::Nothing);
     }
     named(name, line)
 }

@@ -5,70 +5,36 @@ ghost use Rattle.words.specs.Words.{word_at};
 ghost use Rattle.numerals.specs.Numbers.{word_number};
 ghost use Rattle.entry.specs.Parts.{stamp_of, pair_at, vector_at};
 
-use numerals::{Number, Signed, Whole};
 use vector::Vector;
 
-// The time and the vehicle, which stand behind a record's name.
-#[derive(Clone, Copy)]
-pub enum Stamp {
-    Read(i64, u64),
-    Unread(u64),
-}
-
-// Two numbers.
-#[derive(Clone, Copy)]
-pub enum Pair {
-    Read(f64, f64),
-    Unread(u64),
-}
-
-// Three numbers.
-#[derive(Clone, Copy)]
-pub enum Triple {
-    Read(Vector),
-    Unread(u64),
-}
-
-fn number_at(line: &[u8], k: u64) -> Number
+fn number_at(line: &[u8], k: u64) -> Option<f64>
     ensures { result ≡ word_number (word_at k line.now) }
 {
     numerals::read_number(words::word(line, k))
 }
 
-pub fn stamp_at(line: &[u8]) -> Stamp
+pub fn stamp_at(line: &[u8]) -> Result<(i64, u64), u64>
     ensures { result ≡ stamp_of line.now }
 {
-    match numerals::signed_at(line, 1) {
-        Signed::Read(time) => match numerals::whole_at(line, 2) {
-            Whole::Read(vehicle) => Stamp::Read(time, vehicle),
-            Whole::Unread => Stamp::Unread(3),
-        },
-        Signed::Unread => Stamp::Unread(2),
-    }
+    let time = numerals::signed_at(line, 1).ok_or(2u64)?;
+    let vehicle = numerals::whole_at(line, 2).ok_or(3u64)?;
+    Ok((time, vehicle))
 }
 
-pub fn pair_at(line: &[u8], k: u32) -> Pair
+pub fn pair_at(line: &[u8], k: u32) -> Result<(f64, f64), u64>
     ensures { result ≡ pair_at k line.now }
 {
-    let at = k as u64;
-    match number_at(line, at) {
-        Number::Read(x) => match number_at(line, at + 1) {
-            Number::Read(y) => Pair::Read(x, y),
-            Number::Unread => Pair::Unread(at + 2),
-        },
-        Number::Unread => Pair::Unread(at + 1),
-    }
+    let at = u64::from(k);
+    let x = number_at(line, at).ok_or(at + 1)?;
+    let y = number_at(line, at + 1).ok_or(at + 2)?;
+    Ok((x, y))
 }
 
-pub fn vector_at(line: &[u8], k: u32) -> Triple
+pub fn vector_at(line: &[u8], k: u32) -> Result<Vector, u64>
     ensures { result ≡ vector_at k line.now }
 {
-    let at = k as u64;
-    match pair_at(line, k) {
-        Pair::Read(x, y) => match number_at(line, at + 2) {
-            Number::Read(z) => Triple::Read(Vector { x, y, z }),
-            Number::Unread => Triple::Unread(at + 3),
-        },
-        Pair::Unread(w) => Triple::Unread(w),
-    }
+    let at = u64::from(k);
+    let (x, y) = pair_at(line, k)?;
+    let z = number_at(line, at + 2).ok_or(at + 3)?;
+    Ok(Vector { x, y, z })
 }

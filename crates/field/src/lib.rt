@@ -17,14 +17,13 @@ pub fn read(s: &[u8], at: usize, w: usize) -> u64
     if at > s.len() {
         return 0;
     }
-    let n = least(least(w, 8), s.len() - at);
-    if n == 8 {
+    let n = w.min(8).min(s.len() - at);
+    let part = &s[at..at + n];
+    match part.first_chunk() {
         // by itself, so that the compiler makes one load of it
-        let end = at + 8;
-        return le_of(&s[at..end]);
+        Some(eight) => u64::from_le_bytes(*eight),
+        None => le_of(part),
     }
-    let e = at + n;
-    le_of(&s[at..e])
 }
 
 // 64 bits read as signed.
@@ -34,7 +33,7 @@ pub fn signed(n: u64) -> i64
     if n < 0x8000_0000_0000_0000 {
         n as i64
     } else {
-        -1 - ((0xffff_ffff_ffff_ffff - n) as i64)
+        -1 - ((u64::MAX - n) as i64)
     }
 }
 
@@ -44,9 +43,10 @@ pub fn bits_of(z: i64) -> u64
 {
     let m = signs::magnitude(z);
     if signs::is_negative(z) {
-        return 0xffff_ffff_ffff_ffff - m;
+        u64::MAX - m
+    } else {
+        m
     }
-    m
 }
 
 // 16 bits read as signed: the last of n.
@@ -66,9 +66,10 @@ pub fn float(n: u64) -> f64
     ensures { result ≡ bits n }
 {
     if n % 0x8000_0000_0000_0000 > 0x7ff0_0000_0000_0000 {
-        return 0.0 / 0.0;
+        f64::NAN
+    } else {
+        f64::from_bits(n)
     }
-    f64::from_bits(n)
 }
 
 fn le_of(p: &[u8]) -> u64
@@ -76,17 +77,9 @@ fn le_of(p: &[u8]) -> u64
     ensures value { result ≡ le p.now }
     ensures upper_bound { result < 256 ^ length p.now }
 {
-    let mut v: u64 = 0;
-    let mut i = p.len();
-    while i > 0 {
-        i -= 1;
-        v = v * 256 + p[i] as u64;
+    let mut v = 0;
+    for b in p.iter().rev() {
+        v = v * 256 + *b as u64;
     }
     v
-}
-
-fn least(a: usize, b: usize) -> usize
-    ensures { result ≡ min a b }
-{
-    if a <= b { a } else { b }
 }

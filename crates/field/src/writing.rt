@@ -10,21 +10,20 @@ fn put_le(buf: &mut [u8], at: usize, n: u64, w: usize) -> usize
     requires { at + w ≤ length buf.old }
     ensures { Stands buf.old at (bytes_le w n) buf.new result }
 {
-    if w == 0 {
-        return at;
+    let end = at + w;
+    let mut rest = n;
+    for i in at..end {
+        buf[i] = (rest % 256) as u8;
+        rest /= 256;
     }
-    let a = text::byte(buf, at, (n % 256) as u8);
-    put_le(buf, a, n / 256, w - 1)
+    end
 }
 
 // The w bytes of n, the least significant first.
 pub fn put(buf: &mut [u8], at: usize, n: u64, w: usize) -> usize
     ensures { Put buf.old at (bytes_le w n) buf.new result }
 {
-    if at > buf.len() {
-        return text::NOWHERE;
-    }
-    if w > buf.len() - at {
+    if at > buf.len() || w > buf.len() - at {
         return text::NOWHERE;
     }
     put_le(buf, at, n, w)
@@ -34,8 +33,10 @@ pub fn put(buf: &mut [u8], at: usize, n: u64, w: usize) -> usize
 pub fn put_float(buf: &mut [u8], at: usize, x: f64) -> usize
     ensures { Put buf.old at (bytes_le 8 (to_bits binary64 x)) buf.new result }
 {
-    if x != x {
-        return put(buf, at, 0x7ff8_0000_0000_0000, 8);
-    }
-    put(buf, at, f64::to_bits(x), 8)
+    let bits = if x.is_nan() {
+        0x7ff8_0000_0000_0000
+    } else {
+        x.to_bits()
+    };
+    put(buf, at, bits, 8)
 }

@@ -13,9 +13,7 @@ fn put_places(buf: &mut [u8], at: usize, n: u64, base: u64, k: usize) -> usize
     ensures { Stands buf.old at (places base k n) buf.new result }
 {
     let mut m = n;
-    let mut i = k;
-    while i > 0 {
-        i -= 1;
+    for i in (0..k).rev() {
         buf[at + i] = text::digit(m % base);
         m /= base;
     }

@@ -4,9 +4,9 @@
 ghost use Rattle.std.specs.Prelude.{◌≡◌};
 ghost use Rattle.flight.specs.Flight.{mu_of, too_far, flown_as, flown_of, burned_of, off_of};
 
-use elapsed::Elapsed;
+use refusal::Refusal;
 use solve::Advanced;
-use table::{Name, Test};
+use table::Name;
 use vector::{State, Vector};
 
 // mu of each body.
@@ -24,69 +24,49 @@ pub struct Flight {
     pub state: State,
 }
 
-// Where a vehicle comes to, or the number of the refusal.
-#[derive(Clone, Copy)]
-pub enum Flown {
-    To(Flight),
-    Refused(u32),
-}
-
 fn mu_of(mu: Mu, body: u8) -> f64
     ensures { result ≡ mu_of mu body }
 {
-    if body == 0 {
-        return mu.earth;
-    }
-    mu.moon
+    if body == 0 { mu.earth } else { mu.moon }
 }
 
 pub fn too_far(f: Flight, time: i64) -> bool
     ensures { result ≡ too_far f time }
 {
-    match elapsed::between(f.time, time) {
-        Elapsed::Cs(_) => false,
-        Elapsed::TooLong => true,
-    }
+    elapsed::between(f.time, time).is_none()
 }
 
 // The flight of a body at a time, in the state that an advance found.
-fn found(body: u8, time: i64, a: Advanced) -> Flown
+fn found(body: u8, time: i64, a: Advanced) -> Result<Flight, Refusal>
     ensures { result ≡ flown_as body time a }
 {
     match a {
-        Advanced::Found(state, _, _) => Flown::To(Flight { body, time, state }),
-        Advanced::TooLong => Flown::Refused(7),
-        Advanced::NotFinished(_) => Flown::Refused(29),
-        Advanced::Refused(n) => Flown::Refused(n),
+        Advanced::Found(state, _, _) => Ok(Flight { body, time, state }),
+        Advanced::TooLong => Err(Refusal::TooLong),
+        Advanced::NotFinished(_) => Err(Refusal::NotFinished),
+        Advanced::Refused(refusal) => Err(refusal),
     }
 }
 
 // A flight advanced to a time, which may lie behind its own.
-pub fn fly(mu: Mu, f: Flight, time: i64) -> Flown
+pub fn fly(mu: Mu, f: Flight, time: i64) -> Result<Flight, Refusal>
     ensures { result ≡ flown_of mu f time }
 {
-    let cs = elapsed::between(f.time, time);
-    match cs {
-        Elapsed::Cs(t) => found(f.body, time, solve::advance(mu_of(mu, f.body), f.state, t)),
-        Elapsed::TooLong => Flown::Refused(5),
-    }
+    let t = elapsed::between(f.time, time).ok_or(Refusal::TimeOutOfRange)?;
+    found(f.body, time, solve::advance(mu_of(mu, f.body), f.state, t))
 }
 
 // A velocity change added to a flight.
-pub fn burn(f: Flight, change: Vector) -> Flown
+pub fn burn(f: Flight, change: Vector) -> Result<Flight, Refusal>
     ensures { result ≡ burned_of f change }
 {
-    let v = vector::sum(vector::velocity(f.state), change);
-    match rows::velocity_components(Test::Passed, 4, Name::Velocity, v) {
-        Test::Passed => {
-            let state = vector::state_of(vector::position(f.state), v);
-            Flown::To(Flight {
-                body: f.body,
-                time: f.time,
-                state,
-            })
+    let v = f.state.velocity() + change;
+    match rows::velocity_components(Refusal::VelocityOutOfRange, Name::Velocity, v) {
+        Ok(()) => {
+            let state = State::new(f.state.position(), v);
+            Ok(Flight { state, ..f })
         }
-        Test::Failed(e) => Flown::Refused(e.number),
+        Err(e) => Err(e.refusal),
     }
 }
 
@@ -94,6 +74,6 @@ pub fn burn(f: Flight, change: Vector) -> Flown
 pub fn off(a: Flight, b: Flight, range: f64) -> f64
     ensures { result ≡ off_of a b range }
 {
-    let d = vector::difference(vector::position(a.state), vector::position(b.state));
-    vector::length(d) - range
+    let d = a.state.position() - b.state.position();
+    d.length() - range
 }

@@ -1,4 +1,6 @@
 -- Up to 65,536 bytes, what is listed as it comes is the listing. Assumes nothing.
+use Rattle.std.specs.Prelude.{Result}
+use Rattle.refusal.specs.declared.Refusal.{Refusal}
 use Prim.Native.Nat.{ℕ, zero, suc, ◌-◌, ◌≤◌, ◌<◌, zero-le}
 use native.Mathlib.Omega.{arith}
 use mathlib.Core.Path.{◌≡◌, refl, sym, ap, ◌∙◌}
@@ -13,7 +15,6 @@ use Rattle.session.specs.declared.Reading.TheVariants.{Record, Offset, End, Refu
 use Rattle.session.specs.Limits.{offset_allowed}
 use Rattle.session.specs.Read.{start, read_at}
 use Rattle.session.proofs.Progress.{by-record, by-offset, progress}
-use Rattle.text.specs.declared.Made.{Made}
 use Rattle.text.specs.Text.{InFront}
 use Rattle.lines.specs.Lines.{line_room, heading_text}
 use Rattle.report.specs.declared.Next.TheVariants.{Heading, At}
@@ -31,7 +32,7 @@ empty-by : (b : Bool) (d : List ℕ) → d ≡ cond b d ([] ++ drop 0 d)
 empty-by true d = refl
 empty-by false d = refl
 
-pub empty-line : (d : List ℕ) (r : Made) → r ≡ no_line d → InFront line_room [] d d r
+pub empty-line : (d : List ℕ) (r : Result ℕ Refusal) → r ≡ no_line d → InFront line_room [] d d r
 empty-line d r e = record { answer = e; buffer = empty-by (ltb (length d) line_room) d }
 
 -- a reading ahead of a run

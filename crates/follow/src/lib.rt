@@ -7,11 +7,11 @@ ghost use Rattle.text.specs.Text.{InFront};
 ghost use Rattle.lines.specs.Lines.{line_room};
 ghost use Rattle.follow.specs.Follow.{step_text, last_text, no_line};
 
+use refusal::Refusal;
 use stream::{Standing, Step};
-use text::Made;
 
 // The line of a step: a record's, by the clock of its place, or that of a reader that has stopped.
-pub fn step_line(buf: &mut [u8], step: Step) -> Made
+pub fn step_line(buf: &mut [u8], step: Step) -> Result<usize, Refusal>
     ensures { InFront line_room (step_text step) buf.old buf.new result }
 {
     match step {
@@ -25,21 +25,25 @@ pub fn step_line(buf: &mut [u8], step: Step) -> Made
 }
 
 // The line of a reader that has no more to give: a refusal's.
-pub fn last_line(buf: &mut [u8], state: Standing) -> Made
+pub fn last_line(buf: &mut [u8], state: Standing) -> Result<usize, Refusal>
     ensures { InFront line_room (last_text state) buf.old buf.new result }
 {
     match state {
         Standing::Open(_, _) => no_line(buf),
-        Standing::Refused(number, at) => lines::refused_line(buf, number, at as u64),
+        Standing::Refused(refusal, at) => lines::refused_line(
+            buf,
+            refusal.number() as u8,
+            at as u64,
+        ),
         Standing::Ended => no_line(buf),
     }
 }
 
-fn no_line(buf: &[u8]) -> Made
+fn no_line(buf: &[u8]) -> Result<usize, Refusal>
     ensures { result ≡ no_line buf.now }
 {
     if buf.len() < 40 {
-        return Made::Refused(15);
+        return Err(Refusal::NoRoom);
     }
-    Made::Line(0)
+    Ok(0)
 }

@@ -1,19 +1,10 @@
 -- A form says what words a line is to have and what they make; here is how a line is read by one. Each word is read once,
 -- and the first that cannot be read is told by its number, the line's first word being 1. Assumes nothing: these are definitions.
-use Rattle.std.specs.Prelude.{ℕ, zero, suc, ◌+◌, cond, List, [], ◌∷◌, ℤ, Float}
+use Rattle.std.specs.Prelude.{ℕ, zero, suc, ◌+◌, cond, List, [], ◌∷◌, ℤ, Float, None, Option, Some, Err, Ok, Result}
 use Rattle.iterator.specs.declared.Judgement.{Judgement}
 use Rattle.words.specs.Words.{word_at, is_end, is_word}
 use Rattle.numerals.specs.Numbers.{word_number, word_signed, word_whole}
-use Rattle.numerals.specs.declared.reals.Number.{Number}
-use Rattle.numerals.specs.declared.reals.Number.TheVariants as N
-use Rattle.numerals.specs.declared.digits.Signed.{Signed}
-use Rattle.numerals.specs.declared.digits.Signed.TheVariants as S
-use Rattle.numerals.specs.declared.digits.Whole.{Whole}
-use Rattle.numerals.specs.declared.digits.Whole.TheVariants as W
-use Rattle.forms.specs.declared.judgement.Judged.{Judged}
-use Rattle.forms.specs.declared.judgement.Judged.TheVariants as J
 use Rattle.forms.specs.declared.Request.{Request}
-use Rattle.forms.specs.declared.Request.TheVariants.{Unread}
 use Rattle.forms.specs.Judgements.{word_judgement}
 
 pub data Form : Type 0 where
@@ -29,31 +20,31 @@ pub data Form : Type 0 where
   -- no word that stands here can be read
   none : Form
 
-abbrev pub by_number : Number → (Float → Request) → Request → Request
-by_number (N.Read x) go bad = go x
-by_number N.Unread go bad = bad
+abbrev pub by_number : Option Float → (Float → Result Request ℕ) → Result Request ℕ → Result Request ℕ
+by_number (Some x) go bad = go x
+by_number None go bad = bad
 
-abbrev pub by_signed : Signed → (ℤ → Request) → Request → Request
-by_signed (S.Read z) go bad = go z
-by_signed S.Unread go bad = bad
+abbrev pub by_signed : Option ℤ → (ℤ → Result Request ℕ) → Result Request ℕ → Result Request ℕ
+by_signed (Some z) go bad = go z
+by_signed None go bad = bad
 
-abbrev pub by_whole : Whole → (ℕ → Request) → Request → Request
-by_whole (W.Read n) go bad = go n
-by_whole W.Unread go bad = bad
+abbrev pub by_whole : Option ℕ → (ℕ → Result Request ℕ) → Result Request ℕ → Result Request ℕ
+by_whole (Some n) go bad = go n
+by_whole None go bad = bad
 
-abbrev pub by_judged : Judged → (Judgement → Request) → Request → Request
-by_judged (J.Read j) go bad = go j
-by_judged J.Unread go bad = bad
+abbrev pub by_judged : Option Judgement → (Judgement → Result Request ℕ) → Result Request ℕ → Result Request ℕ
+by_judged (Some j) go bad = go j
+by_judged None go bad = bad
 
--- the request of a line whose first k words are read. A missing word is empty, and no number, judgement or name is.
-unfoldable pub read_by : Form → ℕ → List ℕ → Request
-read_by (end x) k line = cond (is_end k line) x (Unread (k + 1))
-read_by (number go) k line = by_number (word_number (word_at k line)) (λ (x : Float). read_by (go x) (k + 1) line) (Unread (k + 1))
-read_by (signed go) k line = by_signed (word_signed (word_at k line)) (λ (z : ℤ). read_by (go z) (k + 1) line) (Unread (k + 1))
-read_by (whole go) k line = by_whole (word_whole (word_at k line)) (λ (n : ℕ). read_by (go n) (k + 1) line) (Unread (k + 1))
-read_by (judgement go) k line = by_judged (word_judgement (word_at k line)) (λ (j : Judgement). read_by (go j) (k + 1) line) (Unread (k + 1))
+-- the request of a line whose first k words are read, or the number of the first word that cannot be read. A missing word is empty, and no number, judgement or name is.
+unfoldable pub read_by : Form → ℕ → List ℕ → Result Request ℕ
+read_by (end x) k line = cond (is_end k line) (Ok x) (Err (k + 1))
+read_by (number go) k line = by_number (word_number (word_at k line)) (λ (x : Float). read_by (go x) (k + 1) line) (Err (k + 1))
+read_by (signed go) k line = by_signed (word_signed (word_at k line)) (λ (z : ℤ). read_by (go z) (k + 1) line) (Err (k + 1))
+read_by (whole go) k line = by_whole (word_whole (word_at k line)) (λ (n : ℕ). read_by (go n) (k + 1) line) (Err (k + 1))
+read_by (judgement go) k line = by_judged (word_judgement (word_at k line)) (λ (j : Judgement). read_by (go j) (k + 1) line) (Err (k + 1))
 read_by (word w next other) k line = cond (is_word (word_at k line) w) (read_by next (k + 1) line) (read_by other k line)
-read_by none k line = Unread (k + 1)
+read_by none k line = Err (k + 1)
 
 -- n numbers, and what follows them
 unfoldable pub numbers : ℕ → (List Float → Form) → Form

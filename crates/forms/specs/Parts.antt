@@ -1,35 +1,36 @@
 -- What a part that was read says of the form that begins with it, whatever follows. Assumes nothing: these are definitions.
-use Rattle.std.specs.Prelude.{ℕ, ◌+◌, ◌≡◌, cond, List, length, eqb, ℤ, Float}
+use Rattle.std.specs.Prelude.{ℕ, ◌+◌, ◌≡◌, List, ℤ, Float, Err, Ok, Result}
 use Rattle.iterator.specs.declared.Judgement.{Judgement}
 use Rattle.forms.specs.declared.Request.{Request}
-use Rattle.forms.specs.declared.Request.TheVariants as Q
-use Rattle.forms.specs.declared.parts.Ends.{Ends}
-use Rattle.forms.specs.declared.parts.Ends.TheVariants as E
-use Rattle.forms.specs.declared.parts.Sides.{Sides}
-use Rattle.forms.specs.declared.parts.Sides.TheVariants as S
 use Rattle.forms.specs.Forms.{Form, end, signed, judgement, numbers, read_by}
 
--- numbers: w is 0, or the number of the first word that is none
-abbrev pub Numbers : List Float → ℕ → ℕ → List ℕ → Type 0
-Numbers xs k w line =
-    (go : List Float → Form) → read_by (numbers (length xs) go) k line ≡ cond (eqb w 0) (read_by (go xs) (k + length xs) line) (Q.Unread w)
+-- n numbers
+abbrev pub behind_numbers : Result (List Float) ℕ → (List Float → Form) → ℕ → List ℕ → Result Request ℕ
+behind_numbers (Ok xs) go k line = read_by (go xs) k line
+behind_numbers (Err w) go k line = Err w
+
+abbrev pub ReadsNumbers : ℕ → Result (List Float) ℕ → ℕ → List ℕ → Type 0
+ReadsNumbers n r k line = (go : List Float → Form) → read_by (numbers n go) k line ≡ behind_numbers r go (k + n) line
 
 -- and no word more
-abbrev pub OnlyNumbers : List Float → ℕ → ℕ → List ℕ → Type 0
-OnlyNumbers xs k w line =
-    (go : List Float → Request) → read_by (numbers (length xs) λ ys. end (go ys)) k line ≡ cond (eqb w 0) (go xs) (Q.Unread w)
+abbrev pub asked : Result (List Float) ℕ → (List Float → Request) → Result Request ℕ
+asked (Ok xs) ask = Ok (ask xs)
+asked (Err w) ask = Err w
 
-abbrev pub behind_ends : Ends → (ℤ → ℤ → Form) → ℕ → List ℕ → Request
-behind_ends (E.Read lo hi) go k line = read_by (go lo hi) k line
-behind_ends (E.Unread j) go k line = Q.Unread j
+abbrev pub ReadsOnly : ℕ → Result (List Float) ℕ → ℕ → List ℕ → Type 0
+ReadsOnly n r k line = (ask : List Float → Request) → read_by (numbers n λ xs. end (ask xs)) k line ≡ asked r ask
 
-abbrev pub ReadsEnds : Ends → ℕ → List ℕ → Type 0
+abbrev pub behind_ends : Result (ℤ × ℤ) ℕ → (ℤ → ℤ → Form) → ℕ → List ℕ → Result Request ℕ
+behind_ends (Ok (lo, hi)) go k line = read_by (go lo hi) k line
+behind_ends (Err j) go k line = Err j
+
+abbrev pub ReadsEnds : Result (ℤ × ℤ) ℕ → ℕ → List ℕ → Type 0
 ReadsEnds r k line = (go : ℤ → ℤ → Form) → read_by (signed λ lo. signed λ hi. go lo hi) k line ≡ behind_ends r go (k + 2) line
 
-abbrev pub behind_sides : Sides → (Judgement → Judgement → Form) → ℕ → List ℕ → Request
-behind_sides (S.Read below above) go k line = read_by (go below above) k line
-behind_sides (S.Unread j) go k line = Q.Unread j
+abbrev pub behind_sides : Result (Judgement × Judgement) ℕ → (Judgement → Judgement → Form) → ℕ → List ℕ → Result Request ℕ
+behind_sides (Ok (below, above)) go k line = read_by (go below above) k line
+behind_sides (Err j) go k line = Err j
 
-abbrev pub ReadsSides : Sides → ℕ → List ℕ → Type 0
+abbrev pub ReadsSides : Result (Judgement × Judgement) ℕ → ℕ → List ℕ → Type 0
 ReadsSides r k line =
     (go : Judgement → Judgement → Form) → read_by (judgement λ below. judgement λ above. go below above) k line ≡ behind_sides r go (k + 2) line

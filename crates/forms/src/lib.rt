@@ -5,9 +5,8 @@ mod judgement;
 mod parts;
 
 use iterator::{Beginning, Judgement};
-pub use judgement::Judged;
 use lambert::Way;
-pub use parts::{Ends, Sides, ends_at, judgement_at, numbers, only_numbers, sides_at};
+pub use parts::{ends_at, judgement_at, number_at, numbers, only, only_numbers, sides_at};
 use vector::{State, Vector};
 
 // Whose fractions the grade goes by: 01's, or those of a version of the settings.
@@ -64,8 +63,7 @@ pub enum Look {
     },
 }
 
-// What a line asks; `Why` asks for the reason of a solve's answer. A line with no word and a comment ask nothing; a line
-// that cannot be read tells its first such word, or 0 for a line of over 1,000 bytes.
+// What a line asks; `Why` asks for the reason of a solve's answer. A line with no word and a comment ask nothing.
 #[derive(Clone, Copy)]
 pub enum Request {
     Nothing,
@@ -94,5 +92,4 @@ pub enum Request {
         t2: i64,
         t3: i64,
     },
-    Unread(u64),
 }

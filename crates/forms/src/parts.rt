@@ -2,90 +2,79 @@
 // cannot be read, the line's first word being 1.
 ghost use Rattle.std.specs.Prelude.{◌+◌, ◌≡◌};
 ghost use Rattle.words.specs.Words.{word_at};
+ghost use Rattle.numerals.specs.Numbers.{word_number};
 ghost use Rattle.forms.specs.Judgements.{word_judgement};
-ghost use Rattle.forms.specs.Parts.{Numbers, OnlyNumbers, ReadsEnds, ReadsSides};
+ghost use Rattle.forms.specs.Forms.{end, read_by};
+ghost use Rattle.forms.specs.Parts.{ReadsNumbers, ReadsOnly, ReadsEnds, ReadsSides};
 
-use crate::judgement::{Judged, read_judgement};
+use crate::Request;
+use crate::judgement::read_judgement;
 use iterator::Judgement;
-use numerals::{Number, Signed};
 
-// Numbers, as many as there is room for: 0, or the number of the first word that is none.
-pub fn numbers(line: &[u8], k: u32, xs: &mut [f64]) -> u64
-    ensures { Numbers xs.new k result line.now }
+pub fn number_at(line: &[u8], k: u64) -> Option<f64>
+    ensures { result ≡ word_number (word_at k line.now) }
 {
-    let mut i = 0;
-    while i < xs.len() {
-        let at = k as u64 + i as u64;
-        match numerals::read_number(words::word(line, at)) {
-            Number::Read(x) => {
-                xs[i] = x;
-                i += 1;
-            }
-            Number::Unread => {
-                return at + 1;
-            }
-        }
+    numerals::read_number(words::word(line, k))
+}
+
+// N numbers.
+pub fn numbers<const N: usize>(line: &[u8], k: u32) -> Result<[f64; N], u64>
+    ensures { ReadsNumbers N result k line.now }
+{
+    let mut xs = [0.0; N];
+    for (i, x) in xs.iter_mut().enumerate() {
+        let at = u64::from(k) + i as u64;
+        *x = number_at(line, at).ok_or(at + 1)?;
     }
-    0
+    Ok(xs)
 }
 
 // The same, and no word more.
-pub fn only_numbers(line: &[u8], k: u32, xs: &mut [f64]) -> u64
-    ensures { OnlyNumbers xs.new k result line.now }
+pub fn only_numbers<const N: usize>(line: &[u8], k: u32) -> Result<[f64; N], u64>
+    ensures { ReadsOnly N result k line.now }
 {
-    let w = numbers(line, k, xs);
-    if w != 0 {
-        return w;
-    }
-    let at = k as u64 + xs.len() as u64;
+    let xs = numbers(line, k)?;
+    let at = u64::from(k) + N as u64;
     if words::is_end(line, at) {
-        return 0;
+        return Ok(xs);
     }
-    at + 1
+    Err(at + 1)
 }
 
-pub fn judgement_at(line: &[u8], k: u64) -> Judged
+// What is asked, where the line has no word more behind the first k.
+#[tactic(auto, unfolding(crate::specs::Forms::read_by))]
+pub fn only(line: &[u8], k: u32, asked: Request) -> Result<Request, u64>
+    ensures { result ≡ read_by (end asked) k line.now }
+{
+    let behind = u64::from(k);
+    if words::is_end(line, behind) {
+        return Ok(asked);
+    }
+    Err(behind + 1)
+}
+
+pub fn judgement_at(line: &[u8], k: u64) -> Option<Judgement>
     ensures { result ≡ word_judgement (word_at k line.now) }
 {
     read_judgement(words::word(line, k))
 }
 
-// Two places on the grid.
-#[derive(Clone, Copy)]
-pub enum Ends {
-    Read(i64, i64),
-    Unread(u64),
-}
-
-pub fn ends_at(line: &[u8], k: u32) -> Ends
+#[tactic(auto, unfolding(crate::specs::Forms::read_by))]
+pub fn ends_at(line: &[u8], k: u32) -> Result<(i64, i64), u64>
     ensures { ReadsEnds result k line.now }
 {
-    let at = k as u64;
-    match numerals::signed_at(line, at) {
-        Signed::Read(lo) => match numerals::signed_at(line, at + 1) {
-            Signed::Read(hi) => Ends::Read(lo, hi),
-            Signed::Unread => Ends::Unread(at + 2),
-        },
-        Signed::Unread => Ends::Unread(at + 1),
-    }
+    let at = u64::from(k);
+    let lo = numerals::signed_at(line, at).ok_or(at + 1)?;
+    let hi = numerals::signed_at(line, at + 1).ok_or(at + 2)?;
+    Ok((lo, hi))
 }
 
-// The judgements of two places.
-#[derive(Clone, Copy)]
-pub enum Sides {
-    Read(Judgement, Judgement),
-    Unread(u64),
-}
-
-pub fn sides_at(line: &[u8], k: u32) -> Sides
+#[tactic(auto, unfolding(crate::specs::Forms::read_by))]
+pub fn sides_at(line: &[u8], k: u32) -> Result<(Judgement, Judgement), u64>
     ensures { ReadsSides result k line.now }
 {
-    let at = k as u64;
-    match judgement_at(line, at) {
-        Judged::Read(below) => match judgement_at(line, at + 1) {
-            Judged::Read(above) => Sides::Read(below, above),
-            Judged::Unread => Sides::Unread(at + 2),
-        },
-        Judged::Unread => Sides::Unread(at + 1),
-    }
+    let at = u64::from(k);
+    let below = judgement_at(line, at).ok_or(at + 1)?;
+    let above = judgement_at(line, at + 1).ok_or(at + 2)?;
+    Ok((below, above))
 }

@@ -1,4 +1,6 @@
 -- With 01's fractions in the version that is named, every answer is what it is without one. Assumes nothing.
+use Rattle.std.specs.Prelude.{Ok, Result}
+use Rattle.refusal.specs.declared.Refusal.{Refusal}
 use Prim.Native.Nat.{ℕ}
 use mathlib.Core.Path.{◌≡◌, refl, sym, ap, ◌∙◌}
 use mathlib.Core.List.{List}
@@ -18,8 +20,6 @@ use Rattle.solve.specs.declared.Transferred.{Transferred}
 use Rattle.solve.specs.declared.Transferred.TheVariants as Tr
 use Rattle.solve.proofs.Grades.{Own, OwnAdvanced, OwnTransferred, advance-own, transfer-own}
 use Rattle.settings.specs.declared.allowed.Setting.{Setting}
-use Rattle.settings.specs.declared.Looked.{Looked}
-use Rattle.settings.specs.declared.Looked.TheVariants.{Found}
 use Rattle.settings.specs.History.{look_up}
 use Rattle.graded.specs.Graded.{fractions_of, graded, graded_advanced, graded_transferred, advance_by, transfer_by, graded_advance, graded_transfer}
 
@@ -45,7 +45,7 @@ transferred-same size (Tr.Refused n) e = refl
 
 pub record Standard (used : List ℕ) (k : ℕ) : Type 0 where
   pub setting : Setting
-  pub found : look_up used k ≡ Found setting
+  pub found : look_up used k ≡ Ok setting
   pub closed : setting.closed ≡ two^- 20
   pub fair : setting.fair ≡ two^- 10
 
@@ -58,7 +58,7 @@ module _ (used : List ℕ) (k : ℕ) (h : Standard used k) where
   pub standard-advance : (mu : Float) (s : State) (t : Float) (limit : ℕ) (g : Beginning) → graded_advance used k mu s t limit g ≡ advance_to mu s t limit g
   unfolding advance_by
   standard-advance mu s t limit g =
-      ap (λ (l : Looked). advance_by l mu s t limit g) h.found
+      ap (λ (l : Result Setting Refusal). advance_by l mu s t limit g) h.found
       ∙ ap (λ (f : Fractions). graded_advanced f (size_of t) (advance_to mu s t limit g)) same
       ∙ advanced-same (size_of t) (advance_to mu s t limit g) (advance-own mu s t limit g)
 
@@ -66,6 +66,6 @@ module _ (used : List ℕ) (k : ℕ) (h : Standard used k) where
       → graded_transfer used k mu first second way t limit g ≡ transfer_velocity_to mu first second way t limit g
   unfolding transfer_by
   standard-transfer mu first second way t limit g =
-      ap (λ (l : Looked). transfer_by l mu first second way t limit g) h.found
+      ap (λ (l : Result Setting Refusal). transfer_by l mu first second way t limit g) h.found
       ∙ ap (λ (f : Fractions). graded_transferred f t (transfer_velocity_to mu first second way t limit g)) same
       ∙ transferred-same t (transfer_velocity_to mu first second way t limit g) (transfer-own mu first second way t limit g)

@@ -1,6 +1,7 @@
 -- The iterated solves by the settings (T-11): the grades' constants are read from the version named in the call. 30 and 23 are ahead
 -- of the solve's own numbers; a version alters the grade and nothing else. Assumes nothing: these are definitions.
-use Rattle.std.specs.Prelude.{ℕ, List, Float}
+use Rattle.refusal.specs.declared.Refusal.{Refusal}
+use Rattle.std.specs.Prelude.{ℕ, List, Float, Err, Ok, Result}
 use Rattle.real.specs.F64.{size_of}
 use Rattle.vector.specs.declared.Vector.{Vector}
 use Rattle.vector.specs.declared.State.{State}
@@ -14,8 +15,6 @@ use Rattle.solve.specs.declared.Transferred.{Transferred}
 use Rattle.solve.specs.declared.Transferred.TheVariants as Tr
 use Rattle.solve.specs.Answers.{grade_of, advance_to, transfer_velocity_to}
 use Rattle.settings.specs.declared.allowed.Setting.{Setting}
-use Rattle.settings.specs.declared.Looked.{Looked}
-use Rattle.settings.specs.declared.Looked.TheVariants.{Found, Refused}
 use Rattle.settings.specs.History.{look_up}
 
 abbrev pub fractions_of : Setting → Fractions
@@ -39,13 +38,13 @@ graded_transferred f size (Tr.NotFinished b) = Tr.NotFinished b
 graded_transferred f size (Tr.Refused n) = Tr.Refused n
 
 -- by what the settings' version is
-unfoldable pub advance_by : Looked → Float → State → Float → ℕ → Beginning → Advanced
-advance_by (Found x) mu s t limit g = graded_advanced (fractions_of x) (size_of t) (advance_to mu s t limit g)
-advance_by (Refused n) mu s t limit g = Ad.Refused n
+unfoldable pub advance_by : Result Setting Refusal → Float → State → Float → ℕ → Beginning → Advanced
+advance_by (Ok x) mu s t limit g = graded_advanced (fractions_of x) (size_of t) (advance_to mu s t limit g)
+advance_by (Err n) mu s t limit g = Ad.Refused n
 
-unfoldable pub transfer_by : Looked → Float → Vector → Vector → Way → Float → ℕ → Beginning → Transferred
-transfer_by (Found x) mu first second way t limit g = graded_transferred (fractions_of x) t (transfer_velocity_to mu first second way t limit g)
-transfer_by (Refused n) mu first second way t limit g = Tr.Refused n
+unfoldable pub transfer_by : Result Setting Refusal → Float → Vector → Vector → Way → Float → ℕ → Beginning → Transferred
+transfer_by (Ok x) mu first second way t limit g = graded_transferred (fractions_of x) t (transfer_velocity_to mu first second way t limit g)
+transfer_by (Err n) mu first second way t limit g = Tr.Refused n
 
 -- version k of the used part
 abbrev pub graded_advance : List ℕ → ℕ → Float → State → Float → ℕ → Beginning → Advanced

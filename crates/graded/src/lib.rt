@@ -7,7 +7,7 @@ ghost use Rattle.graded.specs.Graded.{fractions_of, graded, graded_advanced, gra
 
 use iterator::Beginning;
 use lambert::Way;
-use settings::{Looked, Setting};
+use settings::Setting;
 use solve::{Advanced, Fractions, Solution, Transferred};
 use vector::{State, Vector};
 
@@ -25,13 +25,7 @@ fn solution(f: Fractions, size: f64, x: Solution) -> Solution
     ensures { result ≡ graded f size x }
 {
     let grade = solve::grade_of(f, size, x.err);
-    Solution {
-        n: x.n,
-        t: x.t,
-        err: x.err,
-        grade,
-        count: x.count,
-    }
+    Solution { grade, ..x }
 }
 
 fn advanced(f: Fractions, size: f64, answer: Advanced) -> Advanced
@@ -62,12 +56,12 @@ pub fn advance(used: &[u8], k: u64, mu: f64, s: State, t: f64, limit: u64, g: Be
     ensures { result ≡ graded_advance used.now k mu s t limit g }
 {
     match settings::look_up(used, k) {
-        Looked::Found(x) => advanced(
+        Ok(x) => advanced(
             fractions_of(x),
             real::size(t),
             solve::advance_limited(mu, s, t, limit, g),
         ),
-        Looked::Refused(number) => Advanced::Refused(number),
+        Err(refusal) => Advanced::Refused(refusal),
     }
 }
 
@@ -86,11 +80,11 @@ pub fn transfer_velocity(
     ensures { result ≡ graded_transfer used.now k mu first second way t limit g }
 {
     match settings::look_up(used, k) {
-        Looked::Found(x) => transferred(
+        Ok(x) => transferred(
             fractions_of(x),
             t,
             solve::transfer_velocity_limited(mu, first, second, way, t, limit, g),
         ),
-        Looked::Refused(number) => Transferred::Refused(number),
+        Err(refusal) => Transferred::Refused(refusal),
     }
 }

@@ -1,37 +1,36 @@
 -- The two vehicles of a replay in lent memory: numbers and whole numbers. Assumes nothing: these are definitions.
-use Rattle.std.specs.Prelude.{ℕ, Bool, cond, ◌||◌, List, [], ◌∷◌, ltb, eqb, get_or, drop, Float}
+use Rattle.flight.specs.declared.Flight.{Flight}
+use Rattle.std.specs.Prelude.{ℕ, Bool, cond, ◌||◌, List, [], ◌∷◌, ltb, eqb, get_or, drop, Float, None, Option, Some}
 use Rattle.real.specs.F64.{f0}
 use Rattle.field.specs.Bytes.{bits_of, signed_of}
 use Rattle.vector.specs.declared.State.{State}
-use Rattle.replay.specs.declared.Vehicle.{Vehicle}
-use Rattle.replay.specs.declared.Vehicle.TheVariants.{Unset, Set}
 use Rattle.replay.specs.declared.Replay.{Replay}
 use Rattle.lent.specs.Given.{state_in}
 
 -- ---- a vehicle: 1 where it is set, its body, the time of its state; the state. All 0 where it is not set
 
-abbrev pub set_in : Vehicle → ℕ
-set_in Unset = 0
-set_in (Set f) = 1
+abbrev pub set_in : Option Flight → ℕ
+set_in None = 0
+set_in (Some f) = 1
 
-abbrev pub body_in : Vehicle → ℕ
-body_in Unset = 0
-body_in (Set f) = f.body
+abbrev pub body_in : Option Flight → ℕ
+body_in None = 0
+body_in (Some f) = f.body
 
-abbrev pub vehicle_time : Vehicle → ℕ
-vehicle_time Unset = 0
-vehicle_time (Set f) = bits_of f.time
+abbrev pub vehicle_time : Option Flight → ℕ
+vehicle_time None = 0
+vehicle_time (Some f) = bits_of f.time
 
-abbrev pub state_held : Vehicle → State
-state_held Unset = record { rx = f0; ry = f0; rz = f0; vx = f0; vy = f0; vz = f0 }
-state_held (Set f) = f.state
+abbrev pub state_held : Option Flight → State
+state_held None = record { rx = f0; ry = f0; rz = f0; vx = f0; vy = f0; vz = f0 }
+state_held (Some f) = f.state
 
 -- the same read; a body other than 0 counts as the moon, and is refused before if it is not 1
 unfoldable pub body_from : ℕ → ℕ
 body_from n = cond (eqb n 0) 0 1
 
-unfoldable pub vehicle_from : ℕ → ℕ → ℕ → State → Vehicle
-vehicle_from set body time s = cond (eqb set 0) Unset (Set (record { body = body_from body; time = signed_of time; state = s }))
+unfoldable pub vehicle_from : ℕ → ℕ → ℕ → State → Option Flight
+vehicle_from set body time s = cond (eqb set 0) None (Some (record { body = body_from body; time = signed_of time; state = s }))
 
 -- the second state of a lent array: the first of what stands behind six numbers
 abbrev pub second_in : List Float → State

@@ -10,7 +10,7 @@ ghost use Rattle.held_replay.specs.Held.{replay_from, held_wholes, held_numbers,
 use field::bits_of;
 use flight::Flight;
 use lent::{put_numbers, put_wholes, state_in, word_at};
-use replay::{Replay, Vehicle};
+use replay::Replay;
 use vector::State;
 
 // The second state of a lent array: the first of what stands behind six numbers.
@@ -26,21 +26,18 @@ fn second_in(s: &[f64]) -> State
 fn body_from(n: u64) -> u8
     ensures { result ≡ body_from n }
 {
-    if n == 0 {
-        return 0;
-    }
-    1
+    if n == 0 { 0 } else { 1 }
 }
 
-fn vehicle_from(set: u64, body: u64, time: u64, state: State) -> Vehicle
+fn vehicle_from(set: u64, body: u64, time: u64, state: State) -> Option<Flight>
     ensures { result ≡ vehicle_from set body time state }
 {
     if set == 0 {
-        return Vehicle::Unset;
+        return None;
     }
     let b = body_from(body);
     let t = field::signed(time);
-    Vehicle::Set(Flight {
+    Some(Flight {
         body: b,
         time: t,
         state,
@@ -57,53 +54,36 @@ pub fn replay_from(states: &[f64], held: &[u64]) -> Replay
     Replay { v0, v1 }
 }
 
-fn set_in(v: Vehicle) -> u64
+fn set_in(v: Option<Flight>) -> u64
     ensures { result ≡ set_in v }
 {
-    match v {
-        Vehicle::Unset => 0,
-        Vehicle::Set(_) => 1,
-    }
+    u64::from(v.is_some())
 }
 
-fn body_in(v: Vehicle) -> u64
+fn body_in(v: Option<Flight>) -> u64
     ensures { result ≡ body_in v }
 {
-    match v {
-        Vehicle::Unset => 0,
-        Vehicle::Set(f) => f.body as u64,
-    }
+    v.map_or(0, |f| u64::from(f.body))
 }
 
-fn time_bits(f: Flight) -> u64
-    ensures { result ≡ bits_of f.time }
-{
-    bits_of(f.time)
-}
-
-fn time_in(v: Vehicle) -> u64
+fn time_in(v: Option<Flight>) -> u64
     ensures { result ≡ vehicle_time v }
 {
-    match v {
-        Vehicle::Unset => 0,
-        Vehicle::Set(f) => time_bits(f),
-    }
+    v.map_or(0, |f| bits_of(f.time))
 }
 
-fn state_held(v: Vehicle) -> State
+fn state_held(v: Option<Flight>) -> State
     ensures { result ≡ state_held v }
 {
-    match v {
-        Vehicle::Unset => State {
-            rx: 0.0,
-            ry: 0.0,
-            rz: 0.0,
-            vx: 0.0,
-            vy: 0.0,
-            vz: 0.0,
-        },
-        Vehicle::Set(f) => f.state,
-    }
+    let nowhere = State {
+        rx: 0.0,
+        ry: 0.0,
+        rz: 0.0,
+        vx: 0.0,
+        vy: 0.0,
+        vz: 0.0,
+    };
+    v.map_or(nowhere, |f| f.state)
 }
 
 // The first n of: the states of both, and behind them by how much a mark is off.

@@ -6,39 +6,32 @@ ghost use Rattle.std.specs.Prelude.{◌≤◌, length};
 ghost use Rattle.history.specs.Within.{Within};
 
 use orders::Order;
-use settings::Stored;
+use refusal::Refusal;
 use std::fs::OpenOptions;
 use std::io;
 use std::io::Write;
 use std::rt::Files;
-use text::Made;
 
 // What stands behind descriptor 3, by its path.
 const KEPT: &str = "/dev/fd/3";
 
 fn list(rt: &(impl Print + Eprint), s: &[u8]) {
     let mut out = [0u8; 16384];
-    match versions::list(s, &mut out) {
-        Made::Line(n) => {
-            console::print(rt, &out[..n]);
-        }
-        Made::Refused(_) => {}
+    if let Ok(n) = versions::list(s, &mut out) {
+        console::print(rt, &out[..n]);
     }
 }
 
 fn show(rt: &(impl Print + Eprint), s: &[u8], k: u64) {
     let mut out = [0u8; 512];
-    match versions::show(s, k, &mut out) {
-        Made::Line(n) => {
-            console::print(rt, &out[..n]);
-        }
-        Made::Refused(_) => {}
+    if let Ok(n) = versions::show(s, k, &mut out) {
+        console::print(rt, &out[..n]);
     }
 }
 
-fn refuse(rt: &(impl Print + Eprint), number: u32) {
+fn refuse(rt: &(impl Print + Eprint), refusal: Refusal) {
     let mut out = [0u8; 512];
-    let n = columns::refused(&mut out, number);
+    let n = columns::refused(&mut out, refusal);
     console::print(rt, &out[..n]);
 }
 
@@ -61,12 +54,12 @@ fn hand_on(rt: &impl Files, s: &[u8]) -> io::Result<()> {
     OpenOptions::new().append(true).open(rt, KEPT)?.write_all(s)
 }
 
-fn keep(rt: &(impl Files + Print + Eprint), buf: &[u8], answer: Stored)
+fn keep(rt: &(impl Files + Print + Eprint), buf: &[u8], answer: Result<(u64, usize), Refusal>)
     requires { Within answer buf.now }
 {
     match answer {
-        Stored::Version(k, e) => kept(rt, &buf[..e], k),
-        Stored::Refused(number) => refuse(rt, number),
+        Ok((k, e)) => kept(rt, &buf[..e], k),
+        Err(refusal) => refuse(rt, refusal),
     }
 }
 
@@ -84,7 +77,6 @@ fn obey(rt: &(impl Files + Print + Eprint), order: Order, buf: &mut [u8], used: 
             let answer = settings::go_back(buf, used, k);
             keep(rt, buf, answer);
         }
-        Order::Unread(word) => unread(rt, word),
     }
 }
 
@@ -101,6 +93,9 @@ fn main(rt: HostRuntime) {
     let mut buf = [0u8; 2817];
     let input = console::read_whole(&rt, &mut rt.stdin(), b"the settings", &mut buf);
     if !input.failed {
-        obey(&rt, orders::read(&line[..n]), &mut buf, input.length);
+        match orders::read(&line[..n]) {
+            Ok(order) => obey(&rt, order, &mut buf, input.length),
+            Err(word) => unread(&rt, word),
+        }
     }
 }

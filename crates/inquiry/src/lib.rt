@@ -6,7 +6,6 @@ ghost use Rattle.inquiry.specs.Inquiry.{settled_by, inquiry_of};
 
 use forms::{Solve, Version};
 use reason::Reason;
-use settings::Looked;
 
 // Where a version of the settings is named, its refusal is ahead of the solve's own.
 fn settled(used: &[u8], version: Version, r: Reason) -> Reason
@@ -15,8 +14,8 @@ fn settled(used: &[u8], version: Version, r: Reason) -> Reason
     match version {
         Version::Standard => r,
         Version::Named(k) => match settings::look_up(used, k) {
-            Looked::Found(_) => r,
-            Looked::Refused(number) => Reason::Settings(number),
+            Ok(_) => r,
+            Err(number) => Reason::Settings(number),
         },
     }
 }

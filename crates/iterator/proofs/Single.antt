@@ -1,5 +1,6 @@
 -- The trial of a run: from a sound start, and with a judge whose times are judged by `judged_of`, it is never refused,
 -- its points are the run's own, and none is left exactly at neighbours. Assumes nothing.
+use Rattle.refusal.specs.declared.Refusal.TheVariants as Refusal
 use Prim.Native.Nat.{ℕ, ◌+◌, ◌^◌, ◌<◌}
 use mathlib.Core.Path.{◌≡◌, refl}
 use mathlib.Core.Bool.{Bool, true, false, cond, not}
@@ -208,7 +209,7 @@ unfolding single_trial_of tried_number next_trial_of
 trial-number asked lo hi below above k = go (all_times_finite asked below above) (sound_of asked lo hi below above) (ltb 1 (width_of lo hi))
   where
     go : (f s w : Bool)
-        → tried_number (cond (not f) (Refused 1) (cond (not s) (Refused 6) (cond w (Point (point_of asked lo hi below above k)) NoneLeft))) ≡ cond (not f) 1 (cond (not s) 6 0)
+        → tried_number (cond (not f) (Refused Refusal.NotFinite) (cond (not s) (Refused Refusal.DerivedOutOfRange) (cond w (Point (point_of asked lo hi below above k)) NoneLeft))) ≡ cond (not f) 1 (cond (not s) 6 0)
     go false s w = refl
     go true false w = refl
     go true true true = refl

@@ -9,6 +9,8 @@ ghost use Rattle.iterator.specs.Same.{same_time, judgement_number, has_time, car
 ghost use Rattle.iterator.specs.Single.{time_finite, all_times_finite, in_grid, time_in_time, all_in_time};
 ghost use Rattle.iterator.specs.Single.{is_below, agrees, ends_agree, sound_of, next_trial_of, single_trial_of, more_left};
 
+use refusal::Refusal;
+
 // Low and high carry the time found; under is too fast and over too slow to have one.
 #[derive(Clone, Copy)]
 pub enum Judgement {
@@ -40,7 +42,7 @@ pub enum Beginning {
 pub enum Tried {
     Point(i64),
     NoneLeft,
-    Refused(u32),
+    Refused(Refusal),
 }
 
 // Times lie within -2^28..2^28, and ends within -2^37..2^37.
@@ -53,17 +55,15 @@ const LEAST_END: i64 = -137438953472;
 const MOST_END: i64 = 137438953472;
 
 // t lies within -2^28..2^28; a NaN does not.
+#[tactic(auto, unfolding(crate::specs::Judged::in_time))]
 pub fn in_time(t: f64) -> bool
     ensures { result ≡ in_time t }
 {
-    if LEAST_TIME <= t {
-        t <= MOST_TIME
-    } else {
-        false
-    }
+    LEAST_TIME <= t && t <= MOST_TIME
 }
 
 // A computed time, judged.
+#[tactic(auto, unfolding(crate::specs::Judged::judged_of))]
 pub fn judged(asked: f64, t: f64) -> Judgement
     ensures { result ≡ judged_of asked t }
 {
@@ -144,26 +144,18 @@ fn time_finite(j: Judgement) -> bool
     }
 }
 
+#[tactic(auto, unfolding(crate::specs::Single::all_times_finite))]
 fn all_finite(asked: f64, below: Judgement, above: Judgement) -> bool
     ensures { result ≡ all_times_finite asked below above }
 {
-    if !real::is_finite(asked) {
-        return false;
-    }
-    if !time_finite(below) {
-        return false;
-    }
-    time_finite(above)
+    real::is_finite(asked) && time_finite(below) && time_finite(above)
 }
 
+#[tactic(auto, unfolding(crate::specs::Single::in_grid))]
 fn in_grid(lo: i64, hi: i64) -> bool
     ensures { result ≡ in_grid lo hi }
 {
-    if LEAST_END <= lo {
-        if lo < hi { hi <= MOST_END } else { false }
-    } else {
-        false
-    }
+    LEAST_END <= lo && lo < hi && hi <= MOST_END
 }
 
 fn time_in_time(j: Judgement) -> bool
@@ -177,28 +169,18 @@ fn time_in_time(j: Judgement) -> bool
     }
 }
 
+#[tactic(auto, unfolding(crate::specs::Single::all_in_time))]
 fn all_in_time(asked: f64, below: Judgement, above: Judgement) -> bool
     ensures { result ≡ all_in_time asked below above }
 {
-    if !in_time(asked) {
-        return false;
-    }
-    if !time_in_time(below) {
-        return false;
-    }
-    time_in_time(above)
+    in_time(asked) && time_in_time(below) && time_in_time(above)
 }
 
 // Low or under; the others are high or over.
 pub fn is_below(j: Judgement) -> bool
     ensures { result ≡ is_below j }
 {
-    match j {
-        Judgement::Low(_) => true,
-        Judgement::Under => true,
-        Judgement::High(_) => false,
-        Judgement::Over => false,
-    }
+    matches!(j, Judgement::Low(_) | Judgement::Under)
 }
 
 // A carried time agrees with its judgement.
@@ -213,31 +195,18 @@ fn time_agrees(asked: f64, j: Judgement) -> bool
     }
 }
 
+#[tactic(auto, unfolding(crate::specs::Single::ends_agree))]
 fn ends_agree(asked: f64, below: Judgement, above: Judgement) -> bool
     ensures { result ≡ ends_agree asked below above }
 {
-    if !is_below(below) {
-        return false;
-    }
-    if is_below(above) {
-        return false;
-    }
-    if !time_agrees(asked, below) {
-        return false;
-    }
-    time_agrees(asked, above)
+    is_below(below) && !is_below(above) && time_agrees(asked, below) && time_agrees(asked, above)
 }
 
+#[tactic(auto, unfolding(crate::specs::Single::sound_of))]
 fn sound(asked: f64, lo: i64, hi: i64, below: Judgement, above: Judgement) -> bool
     ensures { result ≡ sound_of asked lo hi below above }
 {
-    if !in_grid(lo, hi) {
-        return false;
-    }
-    if !all_in_time(asked, below, above) {
-        return false;
-    }
-    ends_agree(asked, below, above)
+    in_grid(lo, hi) && all_in_time(asked, below, above) && ends_agree(asked, below, above)
 }
 
 // The k-th trial between ends on the grid: its point, or at hi - lo = 1 that none is left.
@@ -256,10 +225,10 @@ pub fn trial(asked: f64, lo: i64, hi: i64, below: Judgement, above: Judgement, k
     ensures { result ≡ single_trial_of asked lo hi below above k }
 {
     if !all_finite(asked, below, above) {
-        return Tried::Refused(1);
+        return Tried::Refused(Refusal::NotFinite);
     }
     if !sound(asked, lo, hi, below, above) {
-        return Tried::Refused(6);
+        return Tried::Refused(Refusal::DerivedOutOfRange);
     }
     next_trial(asked, lo, hi, below, above, k)
 }
@@ -305,12 +274,7 @@ pub fn judgement_number(j: Judgement) -> u64
 pub fn has_time(j: Judgement) -> bool
     ensures { result ≡ has_time j }
 {
-    match j {
-        Judgement::Low(_) => true,
-        Judgement::High(_) => true,
-        Judgement::Under => false,
-        Judgement::Over => false,
-    }
+    matches!(j, Judgement::Low(_) | Judgement::High(_))
 }
 
 // The time that it carries; 0 where it carries none.
@@ -326,11 +290,9 @@ pub fn carried(j: Judgement) -> f64
 }
 
 // The same judgement, its time to the bit.
+#[tactic(auto, unfolding(crate::specs::Same::same_as))]
 pub fn same(j: Judgement, k: Judgement) -> bool
     ensures { result ≡ same_as j k }
 {
-    if judgement_number(j) != judgement_number(k) {
-        return false;
-    }
-    same_time(carried(j), carried(k))
+    judgement_number(j) == judgement_number(k) && same_time(carried(j), carried(k))
 }

@@ -1,5 +1,7 @@
 -- What the judge answers is under, over or a computed time judged; the refusal number of the tests is the first row's that applies,
 -- and 1 where an input is infinite or not a number; a velocity in range is finite. Assumes nothing.
+use Rattle.std.specs.Prelude.{Ok}
+use Rattle.refusal.specs.declared.Refusal.TheVariants as Refusal
 use mathlib.Core.Path.{◌≡◌, refl, ap, ◌∙◌}
 use mathlib.Core.Bool.{Bool, true, false, cond, ◌&&◌}
 use mathlib.Core.List.{List, ◌++◌}
@@ -10,7 +12,6 @@ use Rattle.vector.specs.declared.Vector.{Vector}
 use Rattle.vector.specs.Vectors.{dot_of, length_of, divided_of}
 use Rattle.table.specs.declared.Name.TheVariants.{First, Second, Velocity, Time}
 use Rattle.table.specs.declared.Entry.{Entry}
-use Rattle.table.specs.declared.Test.TheVariants.{Passed}
 use Rattle.table.specs.Tests.{first_failing, all_meet, test_number, first_row, table_order, ordered}
 use Rattle.rows.specs.Rows.{finite_number, finite_inputs}
 use Rattle.table.proofs.Laws.{is_row, all_met_lem, meet-both, first_row_lem, row-then}
@@ -107,5 +108,5 @@ module _ (mu : Float) (first second : Vector) where
 
 -- ---- a velocity in the range of row 9 is finite
 
-pub velocity-in-range : (v : Vector) → first_failing (result_row v) ≡ Passed → Finite v
-velocity-in-range v h = velocity-finite 9 Velocity v (all_met_lem (result_row v) h)
+pub velocity-in-range : (v : Vector) → first_failing (result_row v) ≡ Ok tt → Finite v
+velocity-in-range v h = velocity-finite Refusal.ResultOutOfRange Velocity v (all_met_lem (result_row v) h)

@@ -1,5 +1,6 @@
 -- Lambert: two positions and a time give a velocity, in the operations of f64 and in their order. Assumes nothing: these are definitions.
-use Rattle.std.specs.Prelude.{cond, not, List, [], ◌∷◌, ◌++◌, ℤ, Float}
+use Rattle.std.specs.Prelude.{cond, not, List, [], ◌∷◌, ◌++◌, ℤ, Float, Result, Ok, Err}
+use Rattle.refusal.specs.declared.Refusal.TheVariants as Refusal
 use Rattle.std.specs.Float.Ieee.{neg}
 use Rattle.real.specs.F64.{◌⊕◌, ◌⊖◌, ◌⊗◌, ◌⊘◌, ◌≤ᶠ◌, ◌<ᶠ◌, two^, two^-, f0, f1, f2}
 use Rattle.root.specs.Root.{root_of}
@@ -12,8 +13,6 @@ use Rattle.table.specs.declared.Limit.{Limit}
 use Rattle.table.specs.declared.Limit.TheVariants as L
 use Rattle.table.specs.declared.Limit.TheVariants.{AtLeast, OneWithin}
 use Rattle.table.specs.declared.Entry.{Entry}
-use Rattle.table.specs.declared.Test.{Test}
-use Rattle.table.specs.declared.Test.TheVariants.{Passed, Failed}
 use Rattle.vector.specs.Vectors.{dot_of, cross_of, length_of, scaled_of, sum_of, divided_of, negated_of}
 use Rattle.table.specs.Tests.{entry}
 use Rattle.rows.specs.Rows.{finite_number, finite_vector, finite_inputs, mu_row, position_row, velocity_components, transfer_time_row}
@@ -84,17 +83,17 @@ input_row mu first second way t = finite_inputs mu First first Second second ++ 
 
 -- 10 with a normal given: 1 − cosθ < 2^-20, or the normal's length not 1 within 2^-40
 abbrev pub normal_row : Vector → Float → List Entry
-normal_row n cos = entry 10 Versine Whole (f1 ⊖ cos) (AtLeast (two^- 20)) ∷ entry 10 N.Normal Length (length_of n) (OneWithin (two^- 40)) ∷ []
+normal_row n cos = entry Refusal.AngleTooSmall Versine Whole (f1 ⊖ cos) (AtLeast (two^- 20)) ∷ entry Refusal.AngleTooSmall N.Normal Length (length_of n) (OneWithin (two^- 40)) ∷ []
 
 -- 10: |u1×u2| < 2^-10
 abbrev pub angle_row : Way → Transfer → List Entry
-angle_row Short d = entry 10 Cross Whole d.size (AtLeast (two^- 10)) ∷ []
-angle_row Long d = entry 10 Cross Whole d.size (AtLeast (two^- 10)) ∷ []
+angle_row Short d = entry Refusal.AngleTooSmall Cross Whole d.size (AtLeast (two^- 10)) ∷ []
+angle_row Long d = entry Refusal.AngleTooSmall Cross Whole d.size (AtLeast (two^- 10)) ∷ []
 angle_row (Normal n) d = normal_row n d.cos
 
 -- 6: r1/r2 < 2^7, |sinθ/(1−cosθ)| ≤ 2^5
 abbrev pub derived_row : Transfer → List Entry
-derived_row d = entry 6 Ratio Whole d.ratio (L.Under (two^ 7)) ∷ cothalf_row d.cothalf
+derived_row d = entry Refusal.DerivedOutOfRange Ratio Whole d.ratio (L.Under (two^ 7)) ∷ cothalf_row d.cothalf
 
 -- 2, 3, 5, 10 and 6
 abbrev pub range_rows : Float → Vector → Vector → Way → Float → Transfer → List Entry
@@ -131,7 +130,7 @@ arc_of d p cot = record {
 
 -- under if sinθ > 0, else over; a sinθ of 0 counts as positive
 unfoldable pub side_of : Float → Name → Float → Limit → Reached
-side_of sin name amount limit = cond (f0 ≤ᶠ sin) (R.Under (range_test 8 name amount limit)) (R.Over (range_test 7 name amount limit))
+side_of sin name amount limit = cond (f0 ≤ᶠ sin) (R.Under (range_test Refusal.TooShort name amount limit)) (R.Over (range_test Refusal.TooLong name amount limit))
 
 -- Unless den > 0, or if p > 16: the side above. Then 4 to 7.
 unfoldable pub reach_at : Transfer → Float → Reached
@@ -151,12 +150,12 @@ abbrev pub lambert_judge : Transfer → Float → ℤ → Judgement
 lambert_judge d asked n = judged_reach asked (reach_at d (grid_of n))
 
 -- the range test that stopped it; passed where it has a time
-unfoldable pub stopped_by : Reached → Test
-stopped_by (R.Time t) = Passed
-stopped_by (R.Under e) = Failed e
-stopped_by (R.Over e) = Failed e
+unfoldable pub stopped_by : Reached → Result Unit Entry
+stopped_by (R.Time t) = Ok tt
+stopped_by (R.Under e) = Err e
+stopped_by (R.Over e) = Err e
 
-abbrev pub lambert_stop : Transfer → ℤ → Test
+abbrev pub lambert_stop : Transfer → ℤ → Result Unit Entry
 lambert_stop d n = stopped_by (reach_at d (grid_of n))
 
 -- √((mu·p)/r1)·(cot·u1 + normal×u1)
@@ -169,4 +168,4 @@ velocity_at d n = velocity_by d (grid_of n)
 
 -- 9: each velocity component at most 2^7 in size
 abbrev pub result_row : Vector → List Entry
-result_row v = velocity_components 9 Velocity v
+result_row v = velocity_components Refusal.ResultOutOfRange Velocity v

@@ -3,13 +3,13 @@
 #![tactic(auto)]
 
 ghost use Rattle.std.specs.Prelude.{◌≡◌};
-ghost use Rattle.table.specs.declared.Test.TheVariants.{Passed};
 ghost use Rattle.table.specs.Tests.{◌▷◌, first_failing};
 ghost use Rattle.lambert.specs.Lambert.{turn_of, shared_of, transfer_of, position_rows, normal_input, input_row, normal_row, angle_row, derived_row, range_rows, den_of, p_of, arc_of, side_of, reach_at, lambert_judge, lambert_stop, velocity_at, result_row};
 
 use iterator::Judgement;
 use reach::{Arc, Reached};
-use table::{Limit, Name, Part, Test};
+use refusal::Refusal;
+use table::{Entry, Limit, Name, Part};
 use vector::Vector;
 
 // The short way round from the first position to the second, the long way, or the way round a normal that is given.
@@ -48,9 +48,9 @@ pub struct Transfer {
 fn turn_of(u1: Vector, u2: Vector, way: Way) -> Turn
     ensures { result ≡ turn_of u1 u2 way }
 {
-    let h = vector::cross(u1, u2);
-    let size = vector::length(h);
-    let normal = vector::divided(h, size);
+    let h = u1.cross(u2);
+    let size = h.length();
+    let normal = h / size;
     match way {
         Way::Short => Turn {
             size,
@@ -60,11 +60,11 @@ fn turn_of(u1: Vector, u2: Vector, way: Way) -> Turn
         Way::Long => Turn {
             size,
             sin: -size,
-            normal: vector::negated(normal),
+            normal: -normal,
         },
         Way::Normal(n) => Turn {
             size,
-            sin: vector::dot(h, n),
+            sin: h.dot(n),
             normal: n,
         },
     }
@@ -93,97 +93,122 @@ fn shared_of(mu: f64, r1: f64, r2: f64, u1: Vector, cos: f64, turn: Turn) -> Tra
 pub fn transfer_of(mu: f64, first: Vector, second: Vector, way: Way) -> Transfer
     ensures { result ≡ transfer_of mu first second way }
 {
-    let r1 = vector::length(first);
-    let r2 = vector::length(second);
-    let u1 = vector::divided(first, r1);
-    let u2 = vector::divided(second, r2);
+    let r1 = first.length();
+    let r2 = second.length();
+    let u1 = first / r1;
+    let u2 = second / r2;
     let turn = turn_of(u1, u2, way);
-    shared_of(mu, r1, r2, u1, vector::dot(u1, u2), turn)
+    shared_of(mu, r1, r2, u1, u1.dot(u2), turn)
 }
 
 // Row 3, of both positions.
-fn position_rows(t: Test, first: Vector, second: Vector, d: Transfer) -> Test
-    ensures { result ≡ t ▷ position_rows first second d }
+#[tactic(auto, using(table::proofs::Laws::told_fails, table::proofs::Laws::told_passes))]
+fn position_rows(first: Vector, second: Vector, d: Transfer) -> Result<(), Entry>
+    ensures { result ≡ Ok tt ▷ position_rows first second d }
 {
-    let a = rows::position_row(t, Name::First, first, d.r1);
-    rows::position_row(a, Name::Second, second, d.r2)
+    rows::position_row(Name::First, first, d.r1)?;
+    rows::position_row(Name::Second, second, d.r2)
 }
 
 // Row 1, of a normal that is given.
-fn normal_input(t: Test, way: Way) -> Test
-    ensures { result ≡ t ▷ normal_input way }
+#[tactic(auto, using(table::proofs::Laws::told_fails, table::proofs::Laws::told_passes))]
+fn normal_input(way: Way) -> Result<(), Entry>
+    ensures { result ≡ Ok tt ▷ normal_input way }
 {
     match way {
-        Way::Short => t,
-        Way::Long => t,
-        Way::Normal(n) => rows::finite_vector(t, Name::Normal, n),
+        Way::Short => Ok(()),
+        Way::Long => Ok(()),
+        Way::Normal(n) => rows::finite_vector(Name::Normal, n),
     }
 }
 
 // Row 1, of mu, the positions, the time and a normal that is given.
-pub fn input_row(mu: f64, first: Vector, second: Vector, way: Way, t: f64) -> Test
-    ensures { result ≡ Passed ▷ input_row mu first second way t }
+pub fn input_row(mu: f64, first: Vector, second: Vector, way: Way, t: f64) -> Result<(), Entry>
+    ensures { result ≡ Ok tt ▷ input_row mu first second way t }
 {
-    let a = rows::finite_inputs(mu, Name::First, first, Name::Second, second);
-    normal_input(rows::finite_number(a, Name::Time, t), way)
+    rows::finite_inputs(mu, Name::First, first, Name::Second, second)?;
+    rows::finite_number(Name::Time, t)?;
+    normal_input(way)
 }
 
 // Row 10 of a normal that is given: 2^-20 ≤ 1 − cosθ, then the normal's length 1 within 2^-40.
-fn normal_row(t: Test, n: Vector, cos: f64) -> Test
-    ensures { result ≡ t ▷ normal_row n cos }
+#[tactic(auto, using(table::proofs::Laws::told_fails, table::proofs::Laws::told_passes))]
+fn normal_row(n: Vector, cos: f64) -> Result<(), Entry>
+    ensures { result ≡ Ok tt ▷ normal_row n cos }
 {
-    let a = table::at_least(
-        t,
-        10,
+    let least = Limit::AtLeast(9.5367431640625e-7);
+    let one = Limit::OneWithin(9.094947017729282e-13);
+    table::test(
+        Refusal::AngleTooSmall,
         Name::Versine,
         Part::Whole,
         1.0 - cos,
-        9.5367431640625e-7,
-    );
-    table::one_within(
-        a,
-        10,
+        least,
+    )?;
+    table::test(
+        Refusal::AngleTooSmall,
         Name::Normal,
         Part::Length,
-        vector::length(n),
-        9.094947017729282e-13,
+        n.length(),
+        one,
     )
 }
 
 // Row 10: 2^-10 ≤ |u1×u2|, or that of the normal.
-fn angle_row(t: Test, way: Way, d: Transfer) -> Test
-    ensures { result ≡ t ▷ angle_row way d }
+fn angle_row(way: Way, d: Transfer) -> Result<(), Entry>
+    ensures { result ≡ Ok tt ▷ angle_row way d }
 {
+    let least = Limit::AtLeast(9.765625e-4);
     match way {
-        Way::Short => table::at_least(t, 10, Name::Cross, Part::Whole, d.size, 9.765625e-4),
-        Way::Long => table::at_least(t, 10, Name::Cross, Part::Whole, d.size, 9.765625e-4),
-        Way::Normal(n) => normal_row(t, n, d.cos),
+        Way::Short => table::test(
+            Refusal::AngleTooSmall,
+            Name::Cross,
+            Part::Whole,
+            d.size,
+            least,
+        ),
+        Way::Long => table::test(
+            Refusal::AngleTooSmall,
+            Name::Cross,
+            Part::Whole,
+            d.size,
+            least,
+        ),
+        Way::Normal(n) => normal_row(n, d.cos),
     }
 }
 
 // Row 6: r1/r2 < 2^7, then |sinθ/(1−cosθ)| ≤ 2^5.
-fn derived_row(t: Test, d: Transfer) -> Test
-    ensures { result ≡ t ▷ derived_row d }
+#[tactic(auto, using(table::proofs::Laws::told_fails, table::proofs::Laws::told_passes))]
+fn derived_row(d: Transfer) -> Result<(), Entry>
+    ensures { result ≡ Ok tt ▷ derived_row d }
 {
-    let a = table::under(t, 6, Name::Ratio, Part::Whole, d.ratio, 128.0);
-    reach::cothalf_row(a, d.cothalf)
+    table::test(
+        Refusal::DerivedOutOfRange,
+        Name::Ratio,
+        Part::Whole,
+        d.ratio,
+        Limit::Under(128.0),
+    )?;
+    reach::cothalf_row(d.cothalf)
 }
 
 // Rows 2, 3, 5, 10 and 6.
 pub fn range_rows(
-    test: Test,
     mu: f64,
     first: Vector,
     second: Vector,
     way: Way,
     t: f64,
     d: Transfer,
-) -> Test
-    ensures { result ≡ test ▷ range_rows mu first second way t d }
+) -> Result<(), Entry>
+    ensures { result ≡ Ok tt ▷ range_rows mu first second way t d }
 {
-    let a = position_rows(rows::mu_row(test, mu), first, second, d);
-    let b = angle_row(rows::transfer_time_row(a, t), way, d);
-    derived_row(b, d)
+    rows::mu_row(mu)?;
+    position_rows(first, second, d)?;
+    rows::transfer_time_row(t)?;
+    angle_row(way, d)?;
+    derived_row(d)
 }
 
 fn den_at(d: Transfer, cot: f64) -> f64
@@ -219,9 +244,9 @@ fn side(sin: f64, name: Name, amount: f64, limit: Limit) -> Reached
     ensures { result ≡ side_of sin name amount limit }
 {
     if 0.0 <= sin {
-        return Reached::Under(conic::range_test(8, name, amount, limit));
+        return Reached::Under(conic::range_test(Refusal::TooShort, name, amount, limit));
     }
-    Reached::Over(conic::range_test(7, name, amount, limit))
+    Reached::Over(conic::range_test(Refusal::TooLong, name, amount, limit))
 }
 
 // Steps 1 to 7.
@@ -251,13 +276,14 @@ pub fn judge(d: Transfer, asked: f64, n: i64) -> Judgement
 }
 
 // Why a grid point is under or over: the range test that fails; passed where it has a time.
-pub fn stop_at(d: Transfer, n: i64) -> Test
+#[tactic(auto, unfolding(crate::specs::Lambert::stopped_by))]
+pub fn stop_at(d: Transfer, n: i64) -> Result<(), Entry>
     ensures { result ≡ lambert_stop d n }
 {
     match reach_at(d, conic::grid(n)) {
-        Reached::Time(_) => Test::Passed,
-        Reached::Under(e) => Test::Failed(e),
-        Reached::Over(e) => Test::Failed(e),
+        Reached::Time(_) => Ok(()),
+        Reached::Under(e) => Err(e),
+        Reached::Over(e) => Err(e),
     }
 }
 
@@ -269,13 +295,13 @@ pub fn velocity_at(d: Transfer, n: i64) -> Vector
     let k = root::square_root(d.mu * p_at(d, cot) / d.r1);
     let u1 = d.u1;
     let normal = d.normal;
-    let along = vector::scaled(cot, u1);
-    vector::scaled(k, vector::sum(along, vector::cross(normal, u1)))
+    let along = cot * u1;
+    k * (along + normal.cross(u1))
 }
 
 // Row 9, of the velocity.
-pub fn result_row(v: Vector) -> Test
+pub fn result_row(v: Vector) -> Result<(), Entry>
     ensures { result ≡ first_failing (result_row v) }
 {
-    rows::velocity_components(Test::Passed, 9, Name::Velocity, v)
+    rows::velocity_components(Refusal::ResultOutOfRange, Name::Velocity, v)
 }

@@ -1,22 +1,24 @@
 -- How a call answers in lent memory. Assumes nothing: these are definitions.
 use Rattle.std.specs.Prelude.{ℕ, ◌≡◌, Bool, cond, ◌&&◌, List, ◌++◌, leb, length, drop, get_or, Float}
 use Rattle.std.specs.Float.{nan}
+use Rattle.refusal.specs.declared.Refusal.{Refusal}
+use Rattle.refusal.specs.Refusals.{number_of}
 use Rattle.vector.specs.declared.Vector.{Vector}
 use Rattle.vector.specs.declared.State.{State}
 
--- what a call comes to: an answer, in numbers and in whole numbers, or the number of a refusal
+-- what a call comes to: an answer, in numbers and in whole numbers, or a refusal
 pub data Told : Type 0 where
   answer : List Float → List ℕ → Told
-  refused : ℕ → Told
+  refused : Refusal → Told
 
 -- 15 unless every lent array is long enough
 unfoldable pub room_for : Bool → Told → Told
-room_for enough t = cond enough t (refused 15)
+room_for enough t = cond enough t (refused Refusal.NoRoom)
 
--- 0 for an answer
+-- 0 for an answer, and for a refusal its number
 unfoldable pub told_number : Told → ℕ
 told_number (answer xs zs) = 0
-told_number (refused n) = n
+told_number (refused r) = number_of r
 
 -- xs in the first places of d, the rest as it was
 abbrev pub in_front : {A : Type 0} → List A → List A → List A

@@ -14,20 +14,14 @@ use vector::{State, Vector};
 pub fn number_at(s: &[f64], i: usize) -> f64
     ensures { result ≡ get_or s.now i nan }
 {
-    if i < s.len() {
-        return s[i];
-    }
-    0.0 / 0.0
+    s.get(i).copied().unwrap_or(f64::NAN)
 }
 
 // Word i, and 0 where there is none.
 pub fn word_at(s: &[u64], i: usize) -> u64
     ensures { result ≡ get_or s.now i 0 }
 {
-    if i < s.len() {
-        return s[i];
-    }
-    0
+    s.get(i).copied().unwrap_or(0)
 }
 
 pub fn vector_in(s: &[f64]) -> Vector

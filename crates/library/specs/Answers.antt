@@ -1,36 +1,33 @@
 -- Each routine's answer as a number and a case. Assumes nothing: these are definitions.
-use Rattle.std.specs.Prelude.{ℕ, ◌&&◌, List, [], ◌∷◌, leb, length, Float}
-use Rattle.real.specs.declared.Answer.{Answer}
-use Rattle.real.specs.declared.Answer.TheVariants as N
+use Rattle.wheel.specs.declared.Direction.{Direction}
+use Rattle.sight.specs.declared.Points.{Points}
+use Rattle.refusal.specs.declared.Refusal.{Refusal}
+use Rattle.std.specs.Prelude.{ℕ, ◌&&◌, List, [], ◌∷◌, leb, length, Float, Err, Ok, Result}
 use Rattle.theta.specs.declared.TransferTime.{TransferTime}
 use Rattle.theta.specs.declared.TransferTime.TheVariants as T
 use Rattle.theta.specs.Theta.{theta_of}
 use Rattle.apsides.specs.declared.Apsides.{Apsides}
 use Rattle.apsides.specs.declared.Apsides.TheVariants as A
 use Rattle.apsides.specs.Apsides.{apsides_of}
-use Rattle.wheel.specs.declared.Elevation.{Elevation}
-use Rattle.wheel.specs.declared.Elevation.TheVariants as E
 use Rattle.wheel.specs.Wheel.{wheel_of}
-use Rattle.sight.specs.declared.Sight.{Sight}
-use Rattle.sight.specs.declared.Sight.TheVariants as S
 use Rattle.sight.specs.Sight.{sight_of}
 use Rattle.lent.specs.Given.{Told, answer, refused, room_for, vector_in, state_in}
 
 -- ---- a number: x
 
-unfoldable pub one_told : Answer → Told
-one_told (N.Value x) = answer (x ∷ []) []
-one_told (N.Refused n) = refused n
+unfoldable pub one_told : Result Float Refusal → Told
+one_told (Ok x) = answer (x ∷ []) []
+one_told (Err n) = refused n
 
-abbrev pub one_in : Answer → List Float → Told
+abbrev pub one_in : Result Float Refusal → List Float → Told
 one_in a d = room_for (leb 1 (length d)) (one_told a)
 
 -- ---- a transfer time: the time; too long is 7, too short 8
 
 unfoldable pub transfer_time_told : TransferTime → Told
 transfer_time_told (T.Time t) = answer (t.time ∷ []) []
-transfer_time_told T.TooLong = refused 7
-transfer_time_told T.TooShort = refused 8
+transfer_time_told T.TooLong = refused Refusal.TooLong
+transfer_time_told T.TooShort = refused Refusal.TooShort
 transfer_time_told (T.Refused n) = refused n
 
 abbrev pub transfer_time_in : Float → List Float → Float → Float → List Float → Told
@@ -48,21 +45,21 @@ apsides_in mu s d w = room_for (leb 6 (length s) && leb 2 (length d) && leb 1 (l
 
 -- ---- the thumbwheel: sine, cosine
 
-unfoldable pub wheel_told : Elevation → Told
-wheel_told (E.Angle x) = answer (x.sine ∷ x.cosine ∷ []) []
-wheel_told (E.Refused n) = refused n
+unfoldable pub wheel_told : Result Direction Refusal → Told
+wheel_told (Ok x) = answer (x.sine ∷ x.cosine ∷ []) []
+wheel_told (Err n) = refused n
 
 abbrev pub wheel_in : ℕ → List Float → Told
 wheel_in e d = room_for (leb 2 (length d)) (wheel_told (wheel_of e))
 
 -- ---- the sight line: the larger k, the smaller k, the first point, the second point
 
-unfoldable pub sight_told : Sight → Told
-sight_told (S.Crossed p) =
+unfoldable pub sight_told : Result Points Refusal → Told
+sight_told (Ok p) =
     answer
     (p.larger ∷ p.smaller ∷ p.first.x ∷ p.first.y ∷ p.first.z ∷ p.second.x ∷ p.second.y ∷ p.second.z ∷ [])
     []
-sight_told (S.Refused n) = refused n
+sight_told (Err n) = refused n
 
 abbrev pub sight_in : List Float → List Float → ℕ → List Float → List Float → List Float → Told
 sight_in a p e h v d =

@@ -4,20 +4,21 @@ ghost use Rattle.lent.specs.Given.{GivenNumbers};
 ghost use Rattle.library.specs.Answers.{wheel_told, wheel_in, sight_told, sight_in};
 
 use lent::{put_numbers, vector_in};
-use sight::Sight;
-use wheel::Elevation;
+use refusal::Refusal;
+use sight::Points;
+use wheel::Direction;
 
-fn give_wheel(a: Elevation, out: &mut [f64]) -> u32
+fn give_wheel(a: Result<Direction, Refusal>, out: &mut [f64]) -> u32
     requires { 2 ≤ length out.old }
     ensures { GivenNumbers (wheel_told a) out.old out.new result }
 {
     match a {
-        Elevation::Angle(d) => {
+        Ok(d) => {
             let xs = [d.sine, d.cosine];
             put_numbers(out, &xs);
             0
         }
-        Elevation::Refused(n) => n,
+        Err(n) => n.number(),
     }
 }
 
@@ -30,19 +31,19 @@ pub fn cabin_wheel(e: u64, out: &mut [f64]) -> u32
     give_wheel(wheel::wheel(e), out)
 }
 
-fn give_sight(a: Sight, out: &mut [f64]) -> u32
+fn give_sight(a: Result<Points, Refusal>, out: &mut [f64]) -> u32
     requires { 8 ≤ length out.old }
     ensures { GivenNumbers (sight_told a) out.old out.new result }
 {
     match a {
-        Sight::Crossed(p) => {
+        Ok(p) => {
             let f = p.first;
             let s = p.second;
             let xs = [p.larger, p.smaller, f.x, f.y, f.z, s.x, s.y, s.z];
             put_numbers(out, &xs);
             0
         }
-        Sight::Refused(n) => n,
+        Err(n) => n.number(),
     }
 }
 

@@ -5,22 +5,22 @@ ghost use Rattle.lent.specs.Given.{GivenNumbers};
 ghost use Rattle.library.specs.Answers.{one_in};
 
 use lent::put_numbers;
-use real::Answer;
+use refusal::Refusal;
 
 // One number, where there is a place for it.
-fn give_one(a: Answer, out: &mut [f64]) -> u32
+fn give_one(a: Result<f64, Refusal>, out: &mut [f64]) -> u32
     ensures { GivenNumbers (one_in a out.old) out.old out.new result }
 {
     if out.len() < 1 {
         return 15;
     }
     match a {
-        Answer::Value(x) => {
+        Ok(x) => {
             let xs = [x];
             put_numbers(out, &xs);
             0
         }
-        Answer::Refused(n) => n,
+        Err(n) => n.number(),
     }
 }
 

@@ -19,7 +19,7 @@ fn give_time(a: TransferTime, out: &mut [f64]) -> u32
         }
         TransferTime::TooLong => 7,
         TransferTime::TooShort => 8,
-        TransferTime::Refused(n) => n,
+        TransferTime::Refused(n) => n.number(),
     }
 }
 
@@ -54,7 +54,7 @@ fn give_apsides(a: Apsides, out: &mut [f64], whole: &mut [u64]) -> u32
             put_wholes(whole, &zs);
             0
         }
-        Apsides::Refused(n) => n,
+        Apsides::Refused(n) => n.number(),
     }
 }
 

@@ -1,5 +1,6 @@
 -- The advance under a limit on the count, gone on with, and graded by a version, as a number and a case: found is case 0, not
 -- finished is case 1. Assumes nothing: these are definitions.
+use Rattle.refusal.specs.declared.Refusal.{Refusal}
 use Rattle.std.specs.Prelude.{ℕ, cond, not, ◌&&◌, List, ◌∷◌, leb, length, Float}
 use Rattle.iterator.specs.declared.Bracket.{Bracket}
 use Rattle.solve.specs.declared.Advanced.{Advanced}
@@ -16,13 +17,13 @@ stopped_told b = answer (stopped_numbers b) (1 ∷ stopped_wholes b)
 
 -- 14 for a judgement of the run to go on from that is none of the four
 unfoldable pub judged_for : List ℕ → Told → Told
-judged_for from t = cond (run_misjudged from) (refused 14) t
+judged_for from t = cond (run_misjudged from) (refused Refusal.NotAllowed) t
 
 -- ---- an advance: the orbit; too long is 7
 
 unfoldable pub advanced_within_told : Advanced → Told
 advanced_within_told (Ad.Found s x w) = answer (orbit_numbers s x) (0 ∷ orbit_wholes x w)
-advanced_within_told Ad.TooLong = refused 7
+advanced_within_told Ad.TooLong = refused Refusal.TooLong
 advanced_within_told (Ad.NotFinished b) = stopped_told b
 advanced_within_told (Ad.Refused n) = refused n
 

@@ -31,7 +31,7 @@ fn give_advance(a: Advanced, out: &mut [f64], whole: &mut [u64]) -> u32
             put_words(whole, b);
             0
         }
-        Advanced::Refused(n) => n,
+        Advanced::Refused(n) => n.number(),
     }
 }
 

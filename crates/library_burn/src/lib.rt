@@ -3,16 +3,17 @@
 
 ghost use Rattle.std.specs.Prelude.{◌≤◌, length};
 ghost use Rattle.lent.specs.Given.{Given};
-ghost use Rattle.library_burn.specs.Burns.{burn_told, burn_in};
+ghost use Rattle.library_burn.specs.Burns.{change_told, burn_told, burn_in};
 
 use burn::{Burn, Centre};
 use lent::{put_numbers, put_wholes, state_in};
+use refusal::Refusal;
 
-fn give_burn(a: Burn, out: &mut [f64], whole: &mut [u64]) -> u32
+fn give_change(b: Burn, out: &mut [f64], whole: &mut [u64]) -> u32
     requires { (5 ≤ length out.old) × (1 ≤ length whole.old) }
-    ensures { Given (burn_told a) out.old whole.old out.new whole.new result }
+    ensures { Given (change_told b) out.old whole.old out.new whole.new result }
 {
-    match a {
+    match b {
         Burn::Closed(v, near, far) => {
             let xs = [v.x, v.y, v.z, near, far];
             let zs = [0];
@@ -27,7 +28,16 @@ fn give_burn(a: Burn, out: &mut [f64], whole: &mut [u64]) -> u32
             put_wholes(whole, &zs);
             0
         }
-        Burn::Refused(n) => n,
+    }
+}
+
+fn give_burn(a: Result<Burn, Refusal>, out: &mut [f64], whole: &mut [u64]) -> u32
+    requires { (5 ≤ length out.old) × (1 ≤ length whole.old) }
+    ensures { Given (burn_told a) out.old whole.old out.new whole.new result }
+{
+    match a {
+        Ok(b) => give_change(b, out, whole),
+        Err(n) => n.number(),
     }
 }
 

@@ -1,4 +1,6 @@
 -- The desk's line: where 0 is returned there is an answer, the length of its line, and nothing else. Assumes nothing.
+use Rattle.std.specs.Prelude.{Err, Ok}
+use Rattle.refusal.specs.declared.Refusal.TheVariants as Refusal
 use Prim.Native.Nat.{ℕ}
 use native.Mathlib.Omega.{arith}
 use mathlib.Core.Path.{◌≡◌, refl}
@@ -6,7 +8,6 @@ use mathlib.Core.Bool.{Bool, true, false, cond}
 use mathlib.Core.List.{List, [], ◌∷◌}
 use lib.Dec.{leb, ltb}
 use lib.ListN.{length}
-use Rattle.text.specs.declared.Made.TheVariants as M
 use Rattle.reply.specs.Replies.{reply_room, reply_text}
 use Rattle.lent.specs.Given.{answer, told_number, room_for}
 use Rattle.library_lines.specs.Listing.{made_told}
@@ -16,8 +17,8 @@ no_zero : ◌≡◌ {A = ℕ} 15 0 → ⊥
 no_zero e = omega arith
 
 -- 15 for the one array or the other
-of-line : (b c : Bool) (n : ℕ) → told_number (room_for b (made_told (cond c (M.Refused 15) (M.Line n)))) ≡ 0
-    → room_for b (made_told (cond c (M.Refused 15) (M.Line n))) ≡ answer [] (n ∷ [])
+of-line : (b c : Bool) (n : ℕ) → told_number (room_for b (made_told (cond c (Err Refusal.NoRoom) (Ok n)))) ≡ 0
+    → room_for b (made_told (cond c (Err Refusal.NoRoom) (Ok n))) ≡ answer [] (n ∷ [])
 unfolding told_number room_for made_told
 of-line true true n e = absurd (no_zero e)
 of-line true false n e = refl

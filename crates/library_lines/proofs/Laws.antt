@@ -1,4 +1,6 @@
 -- What becomes of the line's buffer, by case. Assumes nothing.
+use Rattle.std.specs.Prelude.{Err, Ok}
+use Rattle.refusal.specs.declared.Refusal.TheVariants as Refusal
 use Prim.Native.Nat.{ℕ}
 use mathlib.Core.Path.{◌≡◌, refl}
 use mathlib.Core.Bool.{Bool, true, false, cond}
@@ -12,11 +14,10 @@ use Rattle.session.specs.declared.record.Kind.TheVariants.{State, Burn, Mark}
 use Rattle.session.specs.Layout as Y
 use Rattle.lines.specs.Days.{local_of}
 use Rattle.lines.specs.Lines.{record_text, event_text}
-use Rattle.text.specs.declared.Made.TheVariants as M
 use Rattle.lent.specs.Given.{room_for, in_front, bytes_after}
 use Rattle.library_lines.specs.Listing.{made_told, line_made}
 
-made : (a : Bool) (k : ℕ) (x d : List ℕ) → cond a d x ≡ bytes_after (made_told (cond a (M.Refused 15) (M.Line k))) x d
+made : (a : Bool) (k : ℕ) (x d : List ℕ) → cond a d x ≡ bytes_after (made_told (cond a (Err Refusal.NoRoom) (Ok k))) x d
 unfolding bytes_after made_told
 made true k x d = refl
 made false k x d = refl

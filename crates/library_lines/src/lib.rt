@@ -8,22 +8,22 @@ ghost use Rattle.library_lines.specs.Listing.{made_told, line_in, record_line, r
 
 use lent::put_wholes;
 use library_records::record_from;
-use text::Made;
+use refusal::Refusal;
 
 // The length of a line that was made.
-pub fn give_made(a: Made, whole: &mut [u64]) -> u32
+pub fn give_made(a: Result<usize, Refusal>, whole: &mut [u64]) -> u32
     ensures { GivenWholes (room_for (leb 1 (length whole.old)) (made_told a)) whole.old whole.new result }
 {
     if whole.len() < 1 {
         return 15;
     }
     match a {
-        Made::Line(n) => {
+        Ok(n) => {
             let zs = [n as u64];
             put_wholes(whole, &zs);
             0
         }
-        Made::Refused(n) => n,
+        Err(n) => n.number(),
     }
 }
 

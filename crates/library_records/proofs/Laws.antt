@@ -1,4 +1,7 @@
 -- What becomes of the buffer, by case; and an answer of whole numbers alone. Assumes nothing.
+use Rattle.refusal.specs.declared.Refusal.{Refusal}
+use Rattle.std.specs.Prelude.{Err, Ok}
+use Rattle.refusal.specs.declared.Refusal.TheVariants as Refusal
 use Prim.Native.Nat.{ℕ, ◌+◌}
 use mathlib.Core.Path.{◌≡◌, refl}
 use mathlib.Core.Bool.{Bool, true, false, cond, not}
@@ -11,7 +14,6 @@ use Rattle.session.specs.Kinds.{record_length}
 use Rattle.session.specs.Layout.{kind_in}
 use Rattle.session.specs.Offset.{offset_bytes}
 use Rattle.session.specs.Decode.{allowed_in}
-use Rattle.writer.specs.declared.record.Written.TheVariants as W
 use Rattle.writer.specs.Write.{has_room, written_of, buffer_of, offset_may, offset_written, offset_buffer}
 use Rattle.lent.specs.Given.{Told, answer, refused, room_for, numbers_after, bytes_after, put_in, Given}
 use Rattle.lent.proofs.Gives.{Fit, put-wholes}
@@ -26,7 +28,7 @@ pub short-bytes : (t : Told) (e d : List ℕ) → d ≡ bytes_after (room_for fa
 unfolding room_for bytes_after
 short-bytes t e d = refl
 
-pub left-bytes : (n : ℕ) (e d : List ℕ) → d ≡ bytes_after (room_for true (refused n)) e d
+pub left-bytes : (n : Refusal) (e d : List ℕ) → d ≡ bytes_after (room_for true (refused n)) e d
 unfolding room_for bytes_after
 left-bytes n e d = refl
 
@@ -34,7 +36,7 @@ pub few_bytes : (t : Told) (e d : List ℕ) → d ≡ bytes_after (room_for true
 unfolding room_for bytes_after
 few_bytes t e d = refl
 
-either : (a b : Bool) (k : ℕ) (x d : List ℕ) → cond a d (cond b d x) ≡ bytes_after (written_told (cond a (W.Refused 14) (cond b (W.Refused 15) (W.Next k)))) x d
+either : (a b : Bool) (k : ℕ) (x d : List ℕ) → cond a d (cond b d x) ≡ bytes_after (written_told (cond a (Err Refusal.NotAllowed) (cond b (Err Refusal.NoRoom) (Ok k)))) x d
 unfolding bytes_after written_told
 either true b k x d = refl
 either false true k x d = refl

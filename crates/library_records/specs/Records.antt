@@ -1,6 +1,7 @@
 -- Reading and writing records as a number and a case. A whole number that may be below 0 is handed out as its 64 bits.
 -- Assumes nothing: these are definitions.
-use Rattle.std.specs.Prelude.{ℕ, ◌+◌, cond, ◌&&◌, List, [], ◌∷◌, ◌++◌, leb, eqb, length, take, drop, get_or, ℤ, Float}
+use Rattle.refusal.specs.declared.Refusal.{Refusal}
+use Rattle.std.specs.Prelude.{ℕ, ◌+◌, cond, ◌&&◌, List, [], ◌∷◌, ◌++◌, leb, eqb, length, take, drop, get_or, ℤ, Float, Err, Ok, Result}
 use Rattle.std.specs.Float.{nan}
 use Rattle.field.specs.Bytes.{bits_of}
 use Rattle.session.specs.declared.record.Kind.{Kind}
@@ -12,8 +13,6 @@ use Rattle.session.specs.declared.Reading.TheVariants as R
 use Rattle.session.specs.Kinds.{kind_number, record_length}
 use Rattle.session.specs.Layout.{record_with, kind_in, vehicle_in, byte_in, time_in, numbers_in, bytes_of}
 use Rattle.session.specs.Read.{read_at}
-use Rattle.writer.specs.declared.record.Written.{Written}
-use Rattle.writer.specs.declared.record.Written.TheVariants as W
 use Rattle.writer.specs.Write.{written_of, offset_written}
 use Rattle.lent.specs.Given.{Told, answer, refused, room_for}
 
@@ -44,16 +43,16 @@ record_from k v b t xs = record_with (kind_from k) v b t (λ (i : ℕ). get_or x
 
 -- ---- writing: the place behind it
 
-unfoldable pub written_told : Written → Told
-written_told (W.Next n) = answer [] (n ∷ [])
-written_told (W.Refused n) = refused n
+unfoldable pub written_told : Result ℕ Refusal → Told
+written_told (Ok n) = answer [] (n ∷ [])
+written_told (Err n) = refused n
 
 -- 13 for a kind that is none of the three, then 15 for too few numbers
 unfoldable pub write_told : List ℕ → ℕ → ℕ → ℕ → ℕ → ℤ → List Float → Told
 write_told d at k v b t xs =
     cond (leb 1 k && leb k 3)
     (room_for (leb (count_from k) (length xs)) (written_told (written_of d at (record_from k v b t xs))))
-    (refused 13)
+    (refused Refusal.UnknownKind)
 
 abbrev pub write_in : List ℕ → ℕ → ℕ → ℕ → ℕ → ℤ → List Float → List ℕ → Told
 write_in d at k v b t xs w = room_for (leb 1 (length w)) (write_told d at k v b t xs)

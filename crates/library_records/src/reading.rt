@@ -104,7 +104,7 @@ fn give_reading(a: Reading, out: &mut [f64], whole: &mut [u64]) -> u32
             put_wholes(whole, &zs);
             0
         }
-        Reading::Refused(n, _) => n,
+        Reading::Refused(n, _) => n.number(),
     }
 }
 

@@ -5,8 +5,8 @@ ghost use Rattle.lent.specs.Given.{GivenWholes, bytes_after};
 ghost use Rattle.library_records.specs.Records.{count_from, record_from, written_told, write_in, record_written, written, offset_in};
 
 use lent::{number_at, put_wholes, state_in, vector_in};
+use refusal::Refusal;
 use session::{BurnRecord, MarkRecord, Record, StateRecord};
-use writer::Written;
 
 pub fn count_from(k: u64) -> usize
     ensures { result ≡ count_from k }
@@ -50,17 +50,17 @@ pub fn record_from(k: u64, vehicle: u8, body: u8, time: i64, numbers: &[f64]) ->
     })
 }
 
-fn give_written(a: Written, whole: &mut [u64]) -> u32
+fn give_written(a: Result<usize, Refusal>, whole: &mut [u64]) -> u32
     requires { 1 ≤ length whole.old }
     ensures { GivenWholes (written_told a) whole.old whole.new result }
 {
     match a {
-        Written::Next(n) => {
+        Ok(n) => {
             let zs = [n as u64];
             put_wholes(whole, &zs);
             0
         }
-        Written::Refused(n) => n,
+        Err(n) => n.number(),
     }
 }
 

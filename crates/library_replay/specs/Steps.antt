@@ -1,5 +1,6 @@
 -- The step of a replay as a number and a case: the two vehicles are read from the lent arrays, and put there again. Assumes
 -- nothing: these are definitions.
+use Rattle.refusal.specs.declared.Refusal.{Refusal}
 use Rattle.std.specs.Prelude.{ℕ, Bool, cond, ◌&&◌, ◌||◌, List, [], ◌∷◌, leb, ltb, eqb, length, ℤ, Float}
 use Rattle.flight.specs.declared.Mu.{Mu}
 use Rattle.replay.specs.declared.Replay.{Replay}
@@ -31,8 +32,8 @@ unfoldable pub step_told : Mu → ℕ → ℕ → ℕ → ℤ → List Float →
 step_told mu k v b t xs d w =
     cond (leb 1 k && leb k 3)
     (room_for (leb (count_from k) (length xs))
-    (cond (record_wrong k v b || held_wrong w) (refused 14) (stepped_told (step_of mu (replay_from d w) (record_from k v b t xs)))))
-    (refused 13)
+    (cond (record_wrong k v b || held_wrong w) (refused Refusal.NotAllowed) (stepped_told (step_of mu (replay_from d w) (record_from k v b t xs)))))
+    (refused Refusal.UnknownKind)
 
 abbrev pub step_in : Mu → ℕ → ℕ → ℕ → ℤ → List Float → List Float → List ℕ → Told
 step_in mu k v b t xs d w = room_for (leb 13 (length d) && leb 7 (length w)) (step_told mu k v b t xs d w)

@@ -42,7 +42,7 @@ fn give_answer(a: Answer, p: Replay, states: &mut [f64], held: &mut [u64]) -> u3
             put_held(held, 2, p);
             0
         }
-        Answer::Refused(n) => n,
+        Answer::Refused(n) => n.number(),
     }
 }
 

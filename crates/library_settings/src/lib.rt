@@ -6,21 +6,22 @@ ghost use Rattle.lent.specs.Given.{Given, GivenWholes};
 ghost use Rattle.library_settings.specs.Versions.{looked_told, look_in, stored_told, store_in, store_after, back_in, back_after};
 
 use lent::{put_numbers, put_wholes};
-use settings::{Looked, Setting, Stored};
+use refusal::Refusal;
+use settings::Setting;
 
-fn give_looked(a: Looked, out: &mut [f64], whole: &mut [u64]) -> u32
+fn give_looked(a: Result<Setting, Refusal>, out: &mut [f64], whole: &mut [u64]) -> u32
     requires { (4 ≤ length out.old) × (1 ≤ length whole.old) }
     ensures { Given (looked_told a) out.old whole.old out.new whole.new result }
 {
     match a {
-        Looked::Found(x) => {
+        Ok(x) => {
             let xs = [x.mu, x.radius, x.closed, x.fair];
             let zs = [x.body];
             put_numbers(out, &xs);
             put_wholes(whole, &zs);
             0
         }
-        Looked::Refused(n) => n,
+        Err(n) => n.number(),
     }
 }
 
@@ -36,17 +37,17 @@ pub fn cabin_look_up(used: &[u8], k: u64, out: &mut [f64], whole: &mut [u64]) ->
     give_looked(settings::look_up(used, k), out, whole)
 }
 
-fn give_stored(a: Stored, whole: &mut [u64]) -> u32
+fn give_stored(a: Result<(u64, usize), Refusal>, whole: &mut [u64]) -> u32
     requires { 2 ≤ length whole.old }
     ensures { GivenWholes (stored_told a) whole.old whole.new result }
 {
     match a {
-        Stored::Version(k, r) => {
+        Ok((k, r)) => {
             let zs = [k, r as u64];
             put_wholes(whole, &zs);
             0
         }
-        Stored::Refused(n) => n,
+        Err(n) => n.number(),
     }
 }
 

@@ -1,5 +1,6 @@
 -- The trial and the solves as a number and a case. A whole number that may be below 0 is handed out as its 64 bits.
 -- Assumes nothing: these are definitions.
+use Rattle.refusal.specs.declared.Refusal.{Refusal}
 use Rattle.std.specs.Prelude.{ℕ, cond, ◌&&◌, List, [], ◌∷◌, leb, length, ℤ, Float}
 use Rattle.field.specs.Bytes.{bits_of}
 use Rattle.iterator.specs.declared.Tried.{Tried}
@@ -23,7 +24,7 @@ tried_told (P.Refused n) = refused n
 -- 14 for a judgement that is none of the four
 unfoldable pub trial_told : Float → ℤ → ℤ → ℕ → Float → ℕ → Float → ℕ → Told
 trial_told asked lo hi j s k t n =
-    cond (leb j 3 && leb k 3) (tried_told (single_trial_of asked lo hi (judgement_from j s) (judgement_from k t) n)) (refused 14)
+    cond (leb j 3 && leb k 3) (tried_told (single_trial_of asked lo hi (judgement_from j s) (judgement_from k t) n)) (refused Refusal.NotAllowed)
 
 abbrev pub trial_in : Float → ℤ → ℤ → ℕ → Float → ℕ → Float → ℕ → List ℕ → Told
 trial_in asked lo hi j s k t n w = room_for (leb 2 (length w)) (trial_told asked lo hi j s k t n)
@@ -32,8 +33,8 @@ trial_in asked lo hi j s k t n w = room_for (leb 2 (length w)) (trial_told asked
 
 unfoldable pub advanced_told : Advanced → Told
 advanced_told (Ad.Found s x w) = answer (orbit_numbers s x) (orbit_wholes x w)
-advanced_told Ad.TooLong = refused 7
-advanced_told (Ad.NotFinished b) = refused 29
+advanced_told Ad.TooLong = refused Refusal.TooLong
+advanced_told (Ad.NotFinished b) = refused Refusal.NotFinished
 advanced_told (Ad.Refused n) = refused n
 
 abbrev pub advance_in : Float → List Float → Float → List Float → List ℕ → Told
@@ -43,15 +44,15 @@ advance_in mu s t d w = room_for (leb 6 (length s) && leb 8 (length d) && leb 4 
 
 unfoldable pub transferred_told : Transferred → Told
 transferred_told (Tr.Found v x) = answer (velocity_numbers v x) (velocity_wholes x)
-transferred_told Tr.TooLong = refused 7
-transferred_told Tr.TooShort = refused 8
-transferred_told (Tr.NotFinished b) = refused 29
+transferred_told Tr.TooLong = refused Refusal.TooLong
+transferred_told Tr.TooShort = refused Refusal.TooShort
+transferred_told (Tr.NotFinished b) = refused Refusal.NotFinished
 transferred_told (Tr.Refused n) = refused n
 
 -- 14 for a way that is none of the three
 unfoldable pub transfer_told : Float → List Float → List Float → ℕ → List Float → Float → Told
 transfer_told mu a b k normal t =
-    cond (leb k 2) (transferred_told (transfer_velocity_of mu (vector_in a) (vector_in b) (way_from k normal) t)) (refused 14)
+    cond (leb k 2) (transferred_told (transfer_velocity_of mu (vector_in a) (vector_in b) (way_from k normal) t)) (refused Refusal.NotAllowed)
 
 abbrev pub transfer_in : Float → List Float → List Float → ℕ → List Float → Float → List Float → List ℕ → Told
 transfer_in mu a b k normal t d w =

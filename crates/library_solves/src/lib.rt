@@ -26,7 +26,7 @@ fn give_trial(a: Tried, whole: &mut [u64]) -> u32
             put_wholes(whole, &zs);
             0
         }
-        Tried::Refused(n) => n,
+        Tried::Refused(n) => n.number(),
     }
 }
 
@@ -74,7 +74,7 @@ fn give_advance(a: Advanced, out: &mut [f64], whole: &mut [u64]) -> u32
         }
         Advanced::TooLong => 7,
         Advanced::NotFinished(_) => 29,
-        Advanced::Refused(n) => n,
+        Advanced::Refused(n) => n.number(),
     }
 }
 
@@ -111,7 +111,7 @@ fn give_transfer(a: Transferred, out: &mut [f64], whole: &mut [u64]) -> u32
         Transferred::TooLong => 7,
         Transferred::TooShort => 8,
         Transferred::NotFinished(_) => 29,
-        Transferred::Refused(n) => n,
+        Transferred::Refused(n) => n.number(),
     }
 }
 

@@ -45,7 +45,7 @@ fn give_standing(s: Standing, whole: &mut [u64]) -> u32
             put_wholes(whole, &zs);
             0
         }
-        Standing::Refused(n, _) => n as u32,
+        Standing::Refused(n, _) => n.number(),
         Standing::Ended => {
             let zs = [0];
             put_wholes(whole, &zs);

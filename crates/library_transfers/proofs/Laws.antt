@@ -1,6 +1,6 @@
 -- A way or none, judged or not, by what the tests came to. Assumes nothing.
 use Prim.Native.Nat.{ℕ}
-use mathlib.Core.Path.{◌≡◌}
+use mathlib.Core.Path.{refl, ◌≡◌}
 use mathlib.Core.Bool.{Bool, true, false}
 use mathlib.Core.List.{List}
 use lib.Dec.{leb}
@@ -14,7 +14,7 @@ use Rattle.library_transfers.specs.Transfers.{way_for}
 
 pub no_way : {b : Bool} (k : ℕ) (t : Told) {d : List Float} {w : List ℕ} → b ≡ true → leb k 2 ≡ false → Given (room_for b (way_for k t)) d w d w 14
 unfolding way_for
-no_way k t p q = rw (p, q) (enough left)
+no_way k t p q = rw (p, q) (enough (left refl))
 
 pub misjudged : {b : Bool} (k : ℕ) (from : List ℕ) (t : Told) {d : List Float} {w : List ℕ} → b ≡ true → leb k 2 ≡ true → run_misjudged from ≡ true → Given (room_for b (way_for k (judged_for from t))) d w d w 14
 unfolding way_for

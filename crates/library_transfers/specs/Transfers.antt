@@ -1,5 +1,6 @@
 -- The transfer velocity under a limit on the count, gone on with, and graded by a version, as a number and a case: found is
 -- case 0, not finished is case 1. Assumes nothing: these are definitions.
+use Rattle.refusal.specs.declared.Refusal.{Refusal}
 use Rattle.std.specs.Prelude.{ℕ, Bool, cond, not, ◌&&◌, ◌||◌, List, ◌∷◌, leb, ltb, length, Float}
 use Rattle.solve.specs.declared.Transferred.{Transferred}
 use Rattle.solve.specs.declared.Transferred.TheVariants as Tr
@@ -13,14 +14,14 @@ use Rattle.lent.specs.Given.{Told, answer, refused, room_for, vector_in}
 
 unfoldable pub transferred_within_told : Transferred → Told
 transferred_within_told (Tr.Found v x) = answer (velocity_numbers v x) (0 ∷ velocity_wholes x)
-transferred_within_told Tr.TooLong = refused 7
-transferred_within_told Tr.TooShort = refused 8
+transferred_within_told Tr.TooLong = refused Refusal.TooLong
+transferred_within_told Tr.TooShort = refused Refusal.TooShort
 transferred_within_told (Tr.NotFinished b) = stopped_told b
 transferred_within_told (Tr.Refused n) = refused n
 
 -- 14 also for a way that is none of the three
 unfoldable pub way_for : ℕ → Told → Told
-way_for k t = cond (leb k 2) t (refused 14)
+way_for k t = cond (leb k 2) t (refused Refusal.NotAllowed)
 
 -- two positions, and the normal where it is asked for
 unfoldable pub ends_short : List Float → List Float → ℕ → List Float → Bool

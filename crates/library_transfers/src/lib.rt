@@ -35,7 +35,7 @@ fn give_transfer(a: Transferred, out: &mut [f64], whole: &mut [u64]) -> u32
             put_words(whole, b);
             0
         }
-        Transferred::Refused(n) => n,
+        Transferred::Refused(n) => n.number(),
     }
 }
 

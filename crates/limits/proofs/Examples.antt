@@ -1,4 +1,5 @@
 -- Limits and amounts as they are shown. Assumes nothing.
+use Rattle.refusal.specs.declared.Refusal.TheVariants as Refusal
 use Prim.Native.Nat.{ℕ}
 use mathlib.Core.Path.{◌≡◌, refl}
 use mathlib.Core.List.{List, [], ◌∷◌, map}
@@ -29,11 +30,11 @@ others : map shown (bits 0 ∷ bits 0x4044_0000_0000_0000 ∷ bits 0xC049_0000_0
 unfolding concat bound_pieces other_pieces is_power power_pieces fixed_of to_bits size span climb of_bits of_fields odd count_trailing_zeros digits places digit_text eq
 others = refl
 
-not-a-number : concat (failed_pieces (entry 1 N.Position Pa.Y nan Finite)) ≡ ascii "ry nan must be finite bits x7FF8000000000000"
+not-a-number : concat (failed_pieces (entry Refusal.NotFinite N.Position Pa.Y nan Finite)) ≡ ascii "ry nan must be finite bits x7FF8000000000000"
 unfolding concat failed_pieces word_text amount_pieces fixed_of exact_of to_bits places digit_text
 not-a-number = refl
 
-too_short : concat (failed_pieces (entry 3 N.First Pa.Length (bits 0x3FF8_0000_0000_0000) (AtLeast (two^ 18))))
+too_short : concat (failed_pieces (entry Refusal.PositionOutOfRange N.First Pa.Length (bits 0x3FF8_0000_0000_0000) (AtLeast (two^ 18))))
     ≡ ascii "|a| 1.500000 must be at least 2^18 bits x3FF8000000000000"
 unfolding concat failed_pieces word_text amount_pieces exact_of bound_pieces other_pieces is_power power_pieces fixed_of to_bits size span climb of_bits of_fields odd count_trailing_zeros digits places digit_text eq
 too_short = refl

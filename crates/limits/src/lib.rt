@@ -10,17 +10,12 @@ use table::{Entry, Limit};
 
 const FIFTY_BELOW: f64 = -50.0;
 
+#[tactic(auto, unfolding(crate::specs::Limits::is_power))]
 fn is_power(b: u64) -> bool
     ensures { result ≡ is_power b }
 {
-    if b % 4503599627370496 != 0 {
-        return false;
-    }
     let e = b / 4503599627370496;
-    if e < 1 {
-        return false;
-    }
-    e < 2047
+    b % 4503599627370496 == 0 && e >= 1 && e < 2047
 }
 
 fn power(buf: &mut [u8], at: usize, e: u64) -> usize

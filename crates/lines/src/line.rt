@@ -6,29 +6,29 @@ ghost use Rattle.lines.specs.Days.{local_of};
 ghost use Rattle.lines.specs.Lines.{line_room, heading_text, clock_pieces, stamp_pieces, event_pieces, record_text, refused_pieces, refused_text};
 
 use crate::day::day_of;
+use refusal::Refusal;
 use session::{Kind, Record};
-use text::Made;
 
-pub fn heading(buf: &mut [u8]) -> Made
+pub fn heading(buf: &mut [u8]) -> Result<usize, Refusal>
     ensures { InFront line_room heading_text buf.old buf.new result }
 {
     if buf.len() < 40 {
-        return Made::Refused(15);
+        return Err(Refusal::NoRoom);
     }
-    Made::Line(text::bytes(buf, 0, b"day cs vehicle kind\n"))
+    Ok(text::bytes(buf, 0, b"day cs vehicle kind\n"))
 }
 
 // The line of a record, its day and cs by the local clock.
-pub fn record_line(buf: &mut [u8], r: Record, offset: i16) -> Made
+pub fn record_line(buf: &mut [u8], r: Record, offset: i16) -> Result<usize, Refusal>
     ensures { InFront line_room (record_text offset r) buf.old buf.new result }
 {
     if buf.len() < 40 {
-        return Made::Refused(15);
+        return Err(Refusal::NoRoom);
     }
     match r {
-        Record::State(x) => Made::Line(event(buf, x.time, offset, x.vehicle, Kind::State)),
-        Record::Burn(x) => Made::Line(event(buf, x.time, offset, x.vehicle, Kind::Burn)),
-        Record::Mark(x) => Made::Line(event(buf, x.time, offset, x.vehicle, Kind::Mark)),
+        Record::State(x) => Ok(event(buf, x.time, offset, x.vehicle, Kind::State)),
+        Record::Burn(x) => Ok(event(buf, x.time, offset, x.vehicle, Kind::Burn)),
+        Record::Mark(x) => Ok(event(buf, x.time, offset, x.vehicle, Kind::Mark)),
     }
 }
 
@@ -85,11 +85,11 @@ pub fn refused_at(buf: &mut [u8], words: &[u8], number: u64, at: u64) -> usize
 }
 
 // The number is one byte: beside the twenty digits that a place can have, a line of 40 bytes holds no more than seven.
-pub fn refused_line(buf: &mut [u8], number: u8, at: u64) -> Made
+pub fn refused_line(buf: &mut [u8], number: u8, at: u64) -> Result<usize, Refusal>
     ensures { InFront line_room (refused_text number at) buf.old buf.new result }
 {
     if buf.len() < 40 {
-        return Made::Refused(15);
+        return Err(Refusal::NoRoom);
     }
-    Made::Line(refused_at(buf, b"refused ", number as u64, at))
+    Ok(refused_at(buf, b"refused ", number as u64, at))
 }

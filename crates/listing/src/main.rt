@@ -3,7 +3,7 @@
 #![tactic(auto)]
 
 use console::Named;
-use report::{Filling, Next};
+use report::Next;
 use std::io::Read;
 
 fn main(rt: HostRuntime) {
@@ -37,7 +37,7 @@ fn list_from(rt: &(impl Print + Eprint), from: &mut impl Read, name: &[u8]) {
 fn list(rt: &(impl Print + Eprint), s: &[u8], out: &mut [u8]) {
     let mut next = Next::Heading;
     loop {
-        let Filling::Lines(f) = report::fill(s, next, out) else {
+        let Ok(f) = report::fill(s, next, out) else {
             return;
         };
         if !console::print(rt, &out[..f.length]) {

@@ -1,19 +1,16 @@
 -- A decimal by the place of its point. Assumes nothing.
+use Rattle.std.specs.Prelude.{Float, None, Option, Some}
 use Rattle.std.proofs.Common.{◌≡◌, ℕ, ◌+◌, ◌-◌, ◌<◌, ◌≤◌, Bool, true, false, not, ◌&&◌, eqb, leb, List, [], ◌++◌, length, take, drop, sym, refl, ap, ◌∙◌, append-nil, arith, lit≤, length-append, length-drop, drop_of_length-le, length-take-le, take_all, drop-drop, eq-eqb, ne_eqb, le-leb}
 use native.Mathlib.Nat.{sub-zero}
 use mathlib.Core.Bool.{and-false}
 use borrow.Author.Tests.{lt-leb}
 use Rattle.words.specs.declared.Byte.TheVariants.{Point}
-use Rattle.numerals.specs.declared.digits.Whole.{Whole}
-use Rattle.numerals.specs.declared.reals.Number.{Number}
-use Rattle.numerals.specs.declared.reals.Number.TheVariants.{Unread}
 use Rattle.words.specs.Words.{up_to, from}
 use Rattle.words.specs.Found.{Found}
 use Rattle.numerals.proofs.Values.{read-both, read-neither}
 use Rattle.numerals.specs.Numbers.{word_digits, decimals, all_digits, well_formed, over_ten, unsigned_of}
-use Rattle.numerals.specs.declared.digits.Whole.TheVariants as W
 
-not-formed : (s : List ℕ) → well_formed s ≡ false → Unread ≡ unsigned_of s
+not-formed : (s : List ℕ) → well_formed s ≡ false → None ≡ unsigned_of s
 unfolding unsigned_of
 not-formed s e = rw e refl
 
@@ -47,15 +44,15 @@ module _ (s : List ℕ) (p : ℕ) (f : Found Point s 0 p) where
   all-length : length (all_digits s) ≡ p + (length s - (p + 1))
   all-length = length-append (up_to Point s) (decimals s) ∙ omega (arith, front_length, places-length)
 
-  pub none_before : p ≡ 0 → Unread ≡ unsigned_of s
+  pub none_before : p ≡ 0 → None ≡ unsigned_of s
   unfolding well_formed
   none_before e = not-formed s (rw (eq-eqb (length (up_to Point s)) 0 (front_length ∙ e)) refl)
 
-  pub none-behind : length s - p ≡ 1 → Unread ≡ unsigned_of s
+  pub none-behind : length s - p ≡ 1 → None ≡ unsigned_of s
   unfolding well_formed
   none-behind e = not-formed s (rw (eq-eqb (length (from Point s)) 1 (from-length ∙ e)) (and-false (not (eqb (length (up_to Point s)) 0))))
 
-  pub too_many : 15 < p + (length s - (p + 1)) → Unread ≡ unsigned_of s
+  pub too_many : 15 < p + (length s - (p + 1)) → None ≡ unsigned_of s
   unfolding well_formed
   too_many h =
       let l : leb (length (all_digits s)) 15 ≡ false = lt-leb (length (all_digits s)) 15 (rw all-length h) in
@@ -80,22 +77,22 @@ module _ (s : List ℕ) (p : ℕ) (f : Found Point s 0 p) where
       let z : decimals s ≡ [] = behind ∙ drop_of_length-le s l in
       ap (λ (x : List ℕ). up_to Point s ++ x) z ∙ append-nil (up_to Point s) ∙ sym front ∙ take_all p s h
 
-  pub no-point : (w : Whole) (r : Number) → (p ≡ 0 → ⊥) → length s ≤ p → p ≤ 15 → w ≡ word_digits 10 0 s → r ≡ over_ten 0 w → r ≡ unsigned_of s
+  pub no-point : (w : Option ℕ) (r : Option Float) → (p ≡ 0 → ⊥) → length s ≤ p → p ≤ 15 → w ≡ word_digits 10 0 s → r ≡ over_ten 0 w → r ≡ unsigned_of s
   no-point w r a h l e g =
       let z : length s - (p + 1) ≡ 0 = omega arith in
       let one : length s - p ≡ 1 → ⊥ = λ x. omega arith in
       g ∙ ap (over_ten 0) (e ∙ ap (word_digits 10 0) (sym (whole h))) ∙ ap (λ (k : ℕ). over_ten k (word_digits 10 0 (all_digits s))) (sym z)
       ∙ good a one (omega arith)
 
-  pub both-sides : (n : ℕ) (w : Whole) (r : Number) → (p ≡ 0 → ⊥) → (length s - p ≡ 1 → ⊥) → p + (length s - (p + 1)) ≤ 15
-      → word_digits 10 0 (take p s) ≡ W.Read n → w ≡ word_digits 10 n (drop (p + 1) s) → r ≡ over_ten (length s - (p + 1)) w → r ≡ unsigned_of s
+  pub both-sides : (n : ℕ) (w : Option ℕ) (r : Option Float) → (p ≡ 0 → ⊥) → (length s - p ≡ 1 → ⊥) → p + (length s - (p + 1)) ≤ 15
+      → word_digits 10 0 (take p s) ≡ Some n → w ≡ word_digits 10 n (drop (p + 1) s) → r ≡ over_ten (length s - (p + 1)) w → r ≡ unsigned_of s
   both-sides n w r a b l h e g =
       let t : word_digits 10 0 (all_digits s) ≡ word_digits 10 n (decimals s) =
       read-both 10 0 (up_to Point s) (decimals s) n (ap (word_digits 10 0) (sym front) ∙ h) in
       g ∙ ap (over_ten (length s - (p + 1))) (e ∙ ap (word_digits 10 n) (sym behind) ∙ sym t) ∙ good a b l
 
-  pub bad-front : (p ≡ 0 → ⊥) → (length s - p ≡ 1 → ⊥) → p + (length s - (p + 1)) ≤ 15 → word_digits 10 0 (take p s) ≡ W.Unread → Unread ≡ unsigned_of s
+  pub bad-front : (p ≡ 0 → ⊥) → (length s - p ≡ 1 → ⊥) → p + (length s - (p + 1)) ≤ 15 → word_digits 10 0 (take p s) ≡ None → None ≡ unsigned_of s
   bad-front a b l h =
-      let t : word_digits 10 0 (all_digits s) ≡ W.Unread =
+      let t : word_digits 10 0 (all_digits s) ≡ None =
       read-neither 10 0 (up_to Point s) (decimals s) (lit≤ tt) (ap (word_digits 10 0) (sym front) ∙ h) in
       ap (over_ten (length s - (p + 1))) (sym t) ∙ good a b l

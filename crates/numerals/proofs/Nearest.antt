@@ -1,5 +1,6 @@
 -- A decimal is the f64 nearest to the number that it says: its whole number and the power of ten are exact, and their quotient is rounded once.
 -- Assumes nothing.
+use Rattle.std.specs.Prelude.{None, Option, Some}
 use Rattle.std.proofs.Common.{◌≡◌, ℕ, suc, ◌+◌, ◌*◌, ◌^◌, ◌<◌, ◌≤◌, Bool, true, false, cond, not, eqb, ltb, List, [], ◌∷◌, length, pos, sym, refl, ap, ◌∙◌, subst, le_trans, lt_of_lt_of_le, le_of_lt, lt_irrefl, mul-le-mul_right, mul_assoc, mul_comm, add-mul, pos_of_ne-zero, mul-pos, one-mul, zero-mul, mul-one, arith, lit<, lit≤, length-append, ltb-true, ne_eqb, leb-true}
 use native.Mathlib.Nat.{pow-succ', pow-zero, pow-le-pow_right, one-le-pow}
 use lib.Ieee.{Float, nan, inf, fin, Format, binary64, up, down, round, div, of_int}
@@ -9,12 +10,9 @@ use lib.Ieee.Fits.{down_pos, up_pos}
 use lib.Ieee.Scale.{round_same}
 use Rattle.facts.proofs.Truth.{and_0, and-1}
 use Rattle.words.specs.declared.Byte.TheVariants.{Point}
-use Rattle.numerals.specs.declared.digits.Whole.{Whole}
 use Rattle.words.specs.Words.{up_to, from}
 use Rattle.numerals.specs.Numbers.{digit_of, are_digits, value_of, word_digits, decimals, all_digits, well_formed, over_ten, unsigned_of}
 use Rattle.numerals.proofs.Values.{read_is}
-use Rattle.numerals.specs.declared.digits.Whole.TheVariants as W
-use Rattle.numerals.specs.declared.reals.Number.TheVariants as N
 
 -- ---- the quotient of two whole numbers that are exact
 
@@ -68,12 +66,12 @@ unfolding well_formed
 sizes s e = leb-true (length (all_digits s)) 15 (and-1 (not (eqb (length (from Point s)) 1)) _ (and-1 (not (eqb (length (up_to Point s)) 0)) _ e))
 
 -- what is read is the nearest f64 to the whole number of the digits over the power of ten: IEEE 754's one rounding of the exact fraction
-pub nearest : (s : List ℕ) (x : Float) → unsigned_of s ≡ N.Read x → x ≡ round binary64 false (value_of 10 0 (all_digits s)) (10 ^ length (decimals s))
+pub nearest : (s : List ℕ) (x : Float) → unsigned_of s ≡ Some x → x ≡ round binary64 false (value_of 10 0 (all_digits s)) (10 ^ length (decimals s))
 unfolding unsigned_of
 nearest s x e = formed (well_formed s) refl e
   where
-    read : (w : Whole) → well_formed s ≡ true → word_digits 10 0 (all_digits s) ≡ w → over_ten (length (decimals s)) w ≡ N.Read x → x ≡ round binary64 false (value_of 10 0 (all_digits s)) (10 ^ length (decimals s))
-    read (W.Read n) f g h =
+    read : (w : Option ℕ) → well_formed s ≡ true → word_digits 10 0 (all_digits s) ≡ w → over_ten (length (decimals s)) w ≡ Some x → x ≡ round binary64 false (value_of 10 0 (all_digits s)) (10 ^ length (decimals s))
+    read (Some n) f g h =
         let r = read_is 10 0 (all_digits s) n g in
         let l = sizes s f in
         let p : length (decimals s) ≤ 15 = omega (arith, length-append (up_to Point s) (decimals s)) in
@@ -81,8 +79,8 @@ nearest s x e = formed (well_formed s) refl e
         let v : 10 ^ length (decimals s) ≤ 2 ^ 53 = le_trans (pow-le-pow_right {n = 10} (lit< tt) p) (lit≤ tt) in
         let y : div binary64 (of_int binary64 (pos n)) (of_int binary64 (pos (10 ^ length (decimals s)))) ≡ x = cc in
         sym y ∙ exact n (length (decimals s)) u v ∙ rw r.1 refl
-    read W.Unread f g h = let z : ◌≡◌ {A = ℕ} 0 1 = cc in absurd (omega arith)
+    read None f g h = let z : ◌≡◌ {A = ℕ} 0 1 = cc in absurd (omega arith)
 
-    formed : (b : Bool) → well_formed s ≡ b → cond b (over_ten (length (decimals s)) (word_digits 10 0 (all_digits s))) N.Unread ≡ N.Read x → x ≡ round binary64 false (value_of 10 0 (all_digits s)) (10 ^ length (decimals s))
+    formed : (b : Bool) → well_formed s ≡ b → cond b (over_ten (length (decimals s)) (word_digits 10 0 (all_digits s))) None ≡ Some x → x ≡ round binary64 false (value_of 10 0 (all_digits s)) (10 ^ length (decimals s))
     formed true f h = read (word_digits 10 0 (all_digits s)) f refl h
     formed false f h = let z : ◌≡◌ {A = ℕ} 0 1 = cc in absurd (omega arith)

@@ -2,91 +2,77 @@
 #![tactic(auto)]
 
 ghost use Rattle.std.specs.Prelude.{◌≡◌};
-ghost use Rattle.orders.specs.Orders.{ended, version_order, fractions_order, constants_order, store_order, order_by, order_of};
+ghost use Rattle.words.specs.Words.{word_at};
+ghost use Rattle.numerals.specs.Numbers.{word_number};
+ghost use Rattle.orders.specs.Orders.{ended, version_order, fractions_order, store_order, order_by, order_of};
 
-use numerals::{Number, Whole, read_number, read_whole};
+use numerals::{read_number, whole_at};
 use settings::Setting;
 use words::{is_word, word};
 
-// A line that cannot be read tells its first such word, the line's first word being 1.
 #[derive(Clone, Copy)]
 pub enum Order {
     List,
     Show(u64),
     Store(Setting),
     Back(u64),
-    Unread(u64),
 }
 
 // What is asked, where the line has no word more behind the first k.
-fn only(line: &[u8], k: u32, o: Order) -> Order
+fn only(line: &[u8], k: u32, o: Order) -> Result<Order, u64>
     ensures { result ≡ ended k line.now o }
 {
-    let at = k as u64;
-    if word(line, at).len() == 0 {
-        return o;
+    let at = u64::from(k);
+    if word(line, at).is_empty() {
+        return Ok(o);
     }
-    Order::Unread(at + 1)
+    Err(at + 1)
 }
 
 // A version's number, to look at it or to go back to it.
-fn numbered(line: &[u8], back: bool) -> Order
+#[tactic(auto, unfolding(crate::specs::Orders::numbered_by))]
+fn numbered(line: &[u8], back: bool) -> Result<Order, u64>
     ensures { result ≡ version_order back line.now }
 {
-    match read_whole(word(line, 1)) {
-        Whole::Unread => Order::Unread(2),
-        Whole::Read(n) => {
-            if back {
-                return only(line, 2, Order::Back(n));
-            }
-            only(line, 2, Order::Show(n))
-        }
+    let n = whole_at(line, 1).ok_or(2u64)?;
+    if back {
+        return only(line, 2, Order::Back(n));
     }
+    only(line, 2, Order::Show(n))
 }
 
-fn fractions(line: &[u8], body: u64, mu: f64, radius: f64) -> Order
+fn number_at(line: &[u8], k: u64) -> Option<f64>
+    ensures { result ≡ word_number (word_at k line.now) }
+{
+    read_number(word(line, k))
+}
+
+fn fractions(line: &[u8], body: u64, mu: f64, radius: f64) -> Result<Order, u64>
     ensures { result ≡ fractions_order body mu radius line.now }
 {
-    match read_number(word(line, 4)) {
-        Number::Unread => Order::Unread(5),
-        Number::Read(closed) => match read_number(word(line, 5)) {
-            Number::Unread => Order::Unread(6),
-            Number::Read(fair) => {
-                let x = Setting {
-                    body,
-                    mu,
-                    radius,
-                    closed,
-                    fair,
-                };
-                only(line, 6, Order::Store(x))
-            }
-        },
-    }
+    let closed = number_at(line, 4).ok_or(5u64)?;
+    let fair = number_at(line, 5).ok_or(6u64)?;
+    let x = Setting {
+        body,
+        mu,
+        radius,
+        closed,
+        fair,
+    };
+    only(line, 6, Order::Store(x))
 }
 
-fn constants(line: &[u8], body: u64) -> Order
-    ensures { result ≡ constants_order body line.now }
-{
-    match read_number(word(line, 2)) {
-        Number::Unread => Order::Unread(3),
-        Number::Read(mu) => match read_number(word(line, 3)) {
-            Number::Unread => Order::Unread(4),
-            Number::Read(radius) => fractions(line, body, mu, radius),
-        },
-    }
-}
-
-fn setting(line: &[u8]) -> Order
+fn setting(line: &[u8]) -> Result<Order, u64>
     ensures { result ≡ store_order line.now }
 {
-    match read_whole(word(line, 1)) {
-        Whole::Unread => Order::Unread(2),
-        Whole::Read(body) => constants(line, body),
-    }
+    let body = whole_at(line, 1).ok_or(2u64)?;
+    let mu = number_at(line, 2).ok_or(3u64)?;
+    let radius = number_at(line, 3).ok_or(4u64)?;
+    fractions(line, body, mu, radius)
 }
 
-fn named(name: &[u8], line: &[u8]) -> Order
+#[tactic(auto, unfolding(crate::specs::Orders::order_by))]
+fn named(name: &[u8], line: &[u8]) -> Result<Order, u64>
     ensures { result ≡ order_by name.now line.now }
 {
     if is_word(name, b"list") {
@@ -101,10 +87,11 @@ fn named(name: &[u8], line: &[u8]) -> Order
     if is_word(name, b"back") {
         return numbered(line, true);
     }
-    Order::Unread(1)
+    Err(1)
 }
 
-pub fn read(line: &[u8]) -> Order
+// What a line asks, or the number of its first word that cannot be read, the line's first word being 1.
+pub fn read(line: &[u8]) -> Result<Order, u64>
     ensures { result ≡ order_of line.now }
 {
     named(word(line, 0), line)

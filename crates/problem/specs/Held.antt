@@ -1,14 +1,12 @@
 -- A bracket to go on from: its ends on the grid and in order, judged afresh, and right for their place (T-14, row 6).
 -- Assumes nothing: these are definitions.
-use Rattle.std.specs.Prelude.{Bool, cond, ◌&&◌, List, [], ◌∷◌, ◌++◌, leb, ℤ, Float}
+use Rattle.std.specs.Prelude.{Bool, cond, ◌&&◌, List, [], ◌∷◌, ◌++◌, leb, ℤ, Float, Result, Ok, Err}
 use Rattle.std.specs.Int.Signed.{lt_z, le_z}
 use Rattle.iterator.specs.Same.{same_as}
 use Rattle.iterator.specs.Single.{is_below, is_above}
 use Rattle.iterator.specs.declared.Bracket.{Bracket}
 use Rattle.reason.specs.declared.Amiss.{Amiss}
 use Rattle.reason.specs.declared.Amiss.TheVariants.{LoOffGrid, HiOffGrid, LoNotUnderHi, LoMisjudged, HiMisjudged, LoNotBelow, HiNotAbove, CountOver}
-use Rattle.problem.specs.declared.Checked.{Checked}
-use Rattle.problem.specs.declared.Checked.TheVariants.{Fine, Wrong}
 use Rattle.problem.specs.Problems.{start_of, held_of, most_of}
 use Rattle.problem.specs.declared.Problem.{Problem}
 
@@ -45,14 +43,14 @@ end_tests problem asked b =
     ++ (end_test (leb b.count (most_of problem)) (CountOver b.count (most_of problem)) ∷ [])
 
 -- one after the other: the first that fails is kept
-unfoldable pub tested_by : Checked → EndTest → Checked
-tested_by Fine e = cond e.met Fine (Wrong e.fault)
-tested_by (Wrong a) e = Wrong a
+unfoldable pub tested_by : Result Unit Amiss → EndTest → Result Unit Amiss
+tested_by (Ok u) e = cond e.met (Ok tt) (Err e.fault)
+tested_by (Err a) e = Err a
 
 infixl 40 ◌▸◌
-abbrev pub ◌▸◌ : Checked → List EndTest → Checked
+abbrev pub ◌▸◌ : Result Unit Amiss → List EndTest → Result Unit Amiss
 c ▸ [] = c
 c ▸ (e ∷ es) = tested_by c e ▸ es
 
-abbrev pub checked_of : Problem → Float → Bracket → Checked
-checked_of problem asked b = Fine ▸ end_tests problem asked b
+abbrev pub checked_of : Problem → Float → Bracket → Result Unit Amiss
+checked_of problem asked b = Ok tt ▸ end_tests problem asked b

@@ -1,8 +1,7 @@
 -- Why a grid point has no time (T-07). Assumes nothing: these are definitions.
-use Rattle.std.specs.Prelude.{cond, ℤ}
+use Rattle.table.specs.declared.Entry.{Entry}
+use Rattle.std.specs.Prelude.{cond, ℤ, Result, Ok, Err}
 use Rattle.std.specs.Int.Signed.{lt_z}
-use Rattle.table.specs.declared.Test.{Test}
-use Rattle.table.specs.declared.Test.TheVariants.{Passed, Failed}
 use Rattle.reason.specs.declared.Stop.{Stop}
 use Rattle.reason.specs.declared.Stop.TheVariants as S
 use Rattle.kepler.specs.Kepler.{kepler_stop}
@@ -12,13 +11,13 @@ use Rattle.problem.specs.declared.Problem.{Problem}
 use Rattle.problem.specs.declared.Problem.TheVariants.{Kepler, Lambert}
 
 -- the range test that stops the trial of a point inside the grid
-abbrev pub range_at : Problem → ℤ → Test
+abbrev pub range_at : Problem → ℤ → Result Unit Entry
 range_at (Kepler m) n = kepler_stop m n
 range_at (Lambert d) n = lambert_stop d n
 
-unfoldable pub stop_by : Test → Stop
-stop_by (Failed e) = S.Test e
-stop_by Passed = S.EndOfGrid
+unfoldable pub stop_by : Result Unit Entry → Stop
+stop_by (Err e) = S.Test e
+stop_by (Ok tt) = S.EndOfGrid
 
 -- the grid's own ends are not evaluated
 unfoldable pub stop_of : Problem → ℤ → Stop

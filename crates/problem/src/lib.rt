@@ -3,7 +3,6 @@
 
 ghost use Rattle.std.specs.Prelude.{◌≡◌};
 ghost use Rattle.problem.specs.Problems.{judge_of, start_of, held_of, most_of};
-ghost use Rattle.problem.specs.declared.Checked.TheVariants.{Fine};
 ghost use Rattle.problem.specs.Held.{on_grid, end_test, tested_by, ◌▸◌, place_tests, state_tests, stand_tests, checked_of};
 ghost use Rattle.problem.specs.Stops.{range_at, stop_of};
 
@@ -11,19 +10,12 @@ use iterator::{Bracket, Judgement};
 use kepler::Motion;
 use lambert::Transfer;
 use reason::{Amiss, Stop};
-use table::Test;
+use table::Entry;
 
 #[derive(Clone, Copy)]
 pub enum Problem {
     Kepler(Motion),
     Lambert(Transfer),
-}
-
-// Trials can go on from a bracket, or what is amiss with it.
-#[derive(Clone, Copy)]
-pub enum Checked {
-    Fine,
-    Wrong(Amiss),
 }
 
 // The judgement of a grid point inside the grid.
@@ -83,7 +75,7 @@ pub fn held(problem: Problem, asked: f64, n: i64) -> Judgement
 }
 
 // The range test that stops the trial of a grid point inside the grid.
-fn range_test(problem: Problem, n: i64) -> Test
+fn range_test(problem: Problem, n: i64) -> Result<(), Entry>
     ensures { result ≡ range_at problem n }
 {
     match problem {
@@ -99,67 +91,66 @@ fn on_grid(problem: Problem, n: i64) -> bool
     if s.lo <= n { n <= s.hi } else { false }
 }
 
-// One test more; the first that fails is kept.
-fn test(c: Checked, met: bool, a: Amiss) -> Checked
-    ensures { result ≡ tested_by c (end_test met a) }
+// One test, and what is amiss where it fails.
+#[tactic(auto, unfolding(crate::specs::Held::tested_by))]
+fn test(met: bool, a: Amiss) -> Result<(), Amiss>
+    ensures { result ≡ tested_by (Ok tt) (end_test met a) }
 {
-    match c {
-        Checked::Wrong(_) => c,
-        Checked::Fine => {
-            if met {
-                return Checked::Fine;
-            }
-            Checked::Wrong(a)
-        }
-    }
+    if met { Ok(()) } else { Err(a) }
 }
 
 // Its ends on the grid and in order.
-fn placed(problem: Problem, lo: i64, hi: i64) -> Checked
-    ensures { result ≡ Fine ▸ place_tests problem lo hi }
+#[tactic(auto, using(crate::proofs::Checks::tested_fails, crate::proofs::Checks::tested_passes))]
+fn placed(problem: Problem, b: Bracket) -> Result<(), Amiss>
+    ensures { result ≡ Ok tt ▸ place_tests problem b.lo b.hi }
 {
-    let a = test(Checked::Fine, on_grid(problem, lo), Amiss::LoOffGrid(lo));
-    let b = test(a, on_grid(problem, hi), Amiss::HiOffGrid(hi));
-    test(b, lo < hi, Amiss::LoNotUnderHi(lo))
+    let lo = b.lo;
+    let hi = b.hi;
+    test(on_grid(problem, lo), Amiss::LoOffGrid(lo))?;
+    test(on_grid(problem, hi), Amiss::HiOffGrid(hi))?;
+    test(lo < hi, Amiss::LoNotUnderHi(lo))
 }
 
 // Judged as stated.
-fn stated(c: Checked, problem: Problem, asked: f64, b: Bracket) -> Checked
-    ensures { result ≡ c ▸ state_tests problem asked b }
+#[tactic(auto, using(crate::proofs::Checks::tested_fails, crate::proofs::Checks::tested_passes))]
+fn stated(problem: Problem, asked: f64, b: Bracket) -> Result<(), Amiss>
+    ensures { result ≡ Ok tt ▸ state_tests problem asked b }
 {
     let below = b.below;
     let above = b.above;
     let lower = held(problem, asked, b.lo);
-    let upper = held(problem, asked, b.hi);
-    let d = test(
-        c,
+    test(
         iterator::same(lower, below),
         Amiss::LoMisjudged(b.lo, lower),
-    );
+    )?;
+    let upper = held(problem, asked, b.hi);
     test(
-        d,
         iterator::same(upper, above),
         Amiss::HiMisjudged(b.hi, upper),
     )
 }
 
 // Low or under, and high or over.
-fn stands(c: Checked, b: Bracket) -> Checked
-    ensures { result ≡ c ▸ stand_tests b }
+#[tactic(auto, using(crate::proofs::Checks::tested_fails, crate::proofs::Checks::tested_passes))]
+fn stands(b: Bracket) -> Result<(), Amiss>
+    ensures { result ≡ Ok tt ▸ stand_tests b }
 {
     let below = b.below;
     let above = b.above;
-    let d = test(c, iterator::is_below(below), Amiss::LoNotBelow(b.lo));
-    test(d, !iterator::is_below(above), Amiss::HiNotAbove(b.hi))
+    test(iterator::is_below(below), Amiss::LoNotBelow(b.lo))?;
+    test(!iterator::is_below(above), Amiss::HiNotAbove(b.hi))
 }
 
 // Whether trials can go on from a bracket: all of these, in this order, and a count of at most 2b.
-pub fn check_ends(problem: Problem, asked: f64, b: Bracket) -> Checked
+#[tactic(auto, using(crate::proofs::Checks::tested_fails, crate::proofs::Checks::tested_passes))]
+pub fn check_ends(problem: Problem, asked: f64, b: Bracket) -> Result<(), Amiss>
     ensures { result ≡ checked_of problem asked b }
 {
     let most = most(problem);
-    let c = stands(stated(placed(problem, b.lo, b.hi), problem, asked, b), b);
-    test(c, b.count <= most, Amiss::CountOver(b.count, most))
+    placed(problem, b)?;
+    stated(problem, asked, b)?;
+    stands(b)?;
+    test(b.count <= most, Amiss::CountOver(b.count, most))
 }
 
 // Why a grid point has no time: it is the grid's own end, or a range test of its trial fails. A point that has one
@@ -171,8 +162,8 @@ pub fn stop_at(problem: Problem, n: i64) -> Stop
     if s.lo < n {
         if n < s.hi {
             return match range_test(problem, n) {
-                Test::Failed(e) => Stop::Test(e),
-                Test::Passed => Stop::EndOfGrid,
+                Err(e) => Stop::Test(e),
+                Ok(()) => Stop::EndOfGrid,
             };
         }
     }

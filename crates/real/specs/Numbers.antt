@@ -1,8 +1,8 @@
 -- The refusal's number of an answer, and 0 for a value. Assumes nothing: these are definitions.
-use Rattle.std.specs.Prelude.{ℕ}
-use Rattle.real.specs.declared.Answer.{Answer}
-use Rattle.real.specs.declared.Answer.TheVariants.{Value, Refused}
+use Rattle.refusal.specs.declared.Refusal.{Refusal}
+use Rattle.std.specs.Prelude.{ℕ, Err, Float, Ok, Result}
+use Rattle.refusal.specs.Refusals.{number_of}
 
-unfoldable pub answer_number : Answer → ℕ
-answer_number (Value x) = 0
-answer_number (Refused n) = n
+unfoldable pub answer_number : Result Float Refusal → ℕ
+answer_number (Ok x) = 0
+answer_number (Err n) = number_of n

@@ -7,13 +7,6 @@ ghost use Rattle.std.specs.Float.{binary64};
 ghost use Rattle.std.specs.Float.Ieee.{of_int};
 ghost use Rattle.real.specs.F64.{finite, size_of, cut_of};
 
-// A number, or the number of the refusal.
-#[derive(Clone, Copy)]
-pub enum Answer {
-    Value(f64),
-    Refused(u32),
-}
-
 // Neither an infinity nor a NaN.
 pub fn is_finite(x: f64) -> bool
     ensures { result ≡ finite x }

@@ -5,6 +5,7 @@ ghost use Rattle.std.specs.Prelude.{◌≡◌};
 ghost use Rattle.reason.specs.Reasons.{reason_number};
 
 use iterator::{Bracket, Judgement};
+use refusal::Refusal;
 use table::Entry;
 
 // What is amiss with the bracket that trials are to go on from: an end and its place, with the judgement worked out
@@ -48,23 +49,24 @@ pub enum Reason {
     TooLong(Bracket, Stop),
     Range(Entry),
     NotFinished(Bracket),
-    Settings(u32),
+    Settings(Refusal),
     Between(Neighbours),
     Solved,
 }
 
 // The refusal's number, and 0 for what is solved.
+#[tactic(auto, unfolding(crate::specs::Reasons::reason_number))]
 pub fn number_of(r: Reason) -> u32
     ensures { result ≡ reason_number r }
 {
     match r {
-        Reason::Test(e) => e.number,
+        Reason::Test(e) => e.refusal.number(),
         Reason::Amiss(_) => 6,
         Reason::TooShort(_, _) => 8,
         Reason::TooLong(_, _) => 7,
-        Reason::Range(e) => e.number,
+        Reason::Range(e) => e.refusal.number(),
         Reason::NotFinished(_) => 29,
-        Reason::Settings(n) => n,
+        Reason::Settings(n) => n.number(),
         Reason::Between(_) => 0,
         Reason::Solved => 0,
     }

@@ -1,4 +1,5 @@
 -- Every line fits 512 bytes. Assumes nothing.
+use Rattle.refusal.specs.Refusals.{number_of}
 use Prim.Native.Nat.{ℕ, ◌+◌, ◌*◌, ◌≤◌}
 use native.Mathlib.Omega.{arith}
 use mathlib.Core.Path.{◌≡◌}
@@ -28,7 +29,7 @@ use Rattle.reasons.specs.Lines.{test_pieces, stop_pieces, because_pieces, neighb
 
 test_short : (word : List ℕ) (e : Entry) → size (test_pieces word e) ≤ length word + 136
 unfolding concat test_pieces
-test_short word e = simp (concat-append, length-append) (omega (arith, at_most 20 e.number, failed-short e))
+test_short word e = simp (concat-append, length-append) (omega (arith, at_most 20 (number_of e.refusal), failed-short e))
 
 -- ---- neighbours
 
@@ -88,6 +89,6 @@ reason-fits (R.TooShort b s) = omega (arith, neighbour-short (ascii "refused 8 l
 reason-fits (R.TooLong b s) = omega (arith, neighbour-short (ascii "refused 7 lo") b s)
 reason-fits (R.Range e) = omega (arith, test_short (ascii " because ") e)
 reason-fits (R.NotFinished b) = stopped-fits b
-reason-fits (R.Settings n) = refused-fits n
+reason-fits (R.Settings n) = refused-fits (number_of n)
 reason-fits (R.Between n) = between-short n
 reason-fits R.Solved = lit≤ tt

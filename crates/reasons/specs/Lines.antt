@@ -1,5 +1,6 @@
 -- The line that the desk gives for a reason, piece by piece. Assumes nothing: these are definitions.
 use Rattle.std.specs.Prelude.{ℕ, List, [], ◌∷◌, ◌++◌, ℤ, Float}
+use Rattle.refusal.specs.Refusals.{number_of}
 use Rattle.text.specs.Text.{ascii, decimal, signed_text}
 use Rattle.columns.specs.Rows.{labelled_pieces, refused_pieces}
 use Rattle.columns.specs.Rows as Rows
@@ -16,7 +17,7 @@ use Rattle.reason.specs.declared.Reason.TheVariants as R
 
 -- `refused N`, a word, `NAME D must be LIMIT bits X`
 unfoldable pub test_pieces : List ℕ → Entry → List (List ℕ)
-test_pieces word e = ascii "refused " ∷ decimal e.number ∷ word ∷ (failed_pieces e ++ (ascii "\n" ∷ []))
+test_pieces word e = ascii "refused " ∷ decimal (number_of e.refusal) ∷ word ∷ (failed_pieces e ++ (ascii "\n" ∷ []))
 
 -- ---- neighbours of which one has no time
 
@@ -55,6 +56,6 @@ reason_pieces (R.TooShort b s) = neighbour_pieces (ascii "refused 8 lo") b s
 reason_pieces (R.TooLong b s) = neighbour_pieces (ascii "refused 7 lo") b s
 reason_pieces (R.Range e) = test_pieces (ascii " because ") e
 reason_pieces (R.NotFinished b) = stopped_pieces b
-reason_pieces (R.Settings n) = refused_pieces n
+reason_pieces (R.Settings n) = refused_pieces (number_of n)
 reason_pieces (R.Between n) = between_pieces n
 reason_pieces R.Solved = ascii "solved\n" ∷ []

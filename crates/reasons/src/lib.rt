@@ -13,7 +13,7 @@ fn test(buf: &mut [u8], word: &[u8], e: Entry) -> usize
     ensures { Laid buf.old 0 (test_pieces word.now e) buf.new result }
 {
     let a = text::bytes(buf, 0, b"refused ");
-    let b = text::number(buf, a, e.number as u64);
+    let b = text::number(buf, a, e.refusal.number() as u64);
     let c = text::bytes(buf, b, word);
     let d = limits::failed(buf, c, e);
     text::byte(buf, d, b'\n')

@@ -3,11 +3,10 @@
 // message goes to standard error and nothing to standard output.
 #![tactic(auto)]
 
-use account::{Made, Next};
+use account::Next;
 use console::Named;
 use flight::Mu;
-use numerals::Number;
-use replay::{Replay, Vehicle};
+use replay::Replay;
 use std::env::Env;
 use std::io::Read;
 use std::rt::Files;
@@ -30,24 +29,24 @@ fn main(rt: HostRuntime) {
         return;
     }
     match number(&rt, 2) {
-        Number::Unread => {
+        None => {
             console::say(&rt, b"refly: mu of the earth is not a number\n");
         }
-        Number::Read(earth) => match number(&rt, 3) {
-            Number::Unread => {
+        Some(earth) => match number(&rt, 3) {
+            None => {
                 console::say(&rt, b"refly: mu of the moon is not a number\n");
             }
-            Number::Read(moon) => open(&rt, Mu { earth, moon }),
+            Some(moon) => open(&rt, Mu { earth, moon }),
         },
     }
 }
 
 // A word of the command as a number, as at the desk.
-fn number(rt: &impl Env, k: usize) -> Number {
+fn number(rt: &impl Env, k: usize) -> Option<f64> {
     let mut word = [0u8; console::WORD];
     match console::arg(rt, k, &mut word) {
         Ok(n) => numerals::read_number(&word[..n]),
-        Err(_) => Number::Unread,
+        Err(_) => None,
     }
 }
 
@@ -72,12 +71,9 @@ fn fly_from(rt: &(impl Print + Eprint), mu: Mu, from: &mut impl Read, name: &[u8
 
 fn fly(rt: &(impl Print + Eprint), mu: Mu, s: &[u8], line: &mut [u8]) {
     let mut next = Next::Heading;
-    let mut p = Replay {
-        v0: Vehicle::Unset,
-        v1: Vehicle::Unset,
-    };
+    let mut p = Replay { v0: None, v1: None };
     loop {
-        let Made::Line(t) = account::tell(mu, s, next, p, line) else {
+        let Ok(t) = account::tell(mu, s, next, p, line) else {
             return;
         };
         if !console::print(rt, &line[..t.length]) {

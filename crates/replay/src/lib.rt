@@ -2,22 +2,17 @@
 #![tactic(auto)]
 
 ghost use Rattle.std.specs.Prelude.{◌≡◌};
-ghost use Rattle.replay.specs.Replay.{vehicle_of, with_of, burn_from, met_of, both_of, pair_from, refused_of, state_step, burn_step, mark_step, step_of};
+ghost use Rattle.replay.specs.Replay.{vehicle_of, with_of, burn_from, both_of, pair_from, refused_of, state_step, burn_step, mark_step, step_of};
 
-use flight::{Flight, Flown, Mu};
+use flight::{Flight, Mu};
+use refusal::Refusal;
 use session::{BurnRecord, MarkRecord, Record, StateRecord};
-
-#[derive(Clone, Copy)]
-pub enum Vehicle {
-    Unset,
-    Set(Flight),
-}
 
 // The two vehicles.
 #[derive(Clone, Copy)]
 pub struct Replay {
-    pub v0: Vehicle,
-    pub v1: Vehicle,
+    pub v0: Option<Flight>,
+    pub v1: Option<Flight>,
 }
 
 // What a record came to: a state is set, a burn is done, a mark is off by so much, or its number.
@@ -26,7 +21,7 @@ pub enum Answer {
     Set,
     Done,
     Off(f64),
-    Refused(u32),
+    Refused(Refusal),
 }
 
 #[derive(Clone, Copy)]
@@ -35,119 +30,73 @@ pub struct Stepped {
     pub answer: Answer,
 }
 
-// Where both come to.
-#[derive(Clone, Copy)]
-pub enum Pair {
-    Both(Flight, Flight),
-    Refused(u32),
-}
-
-fn vehicle_of(p: Replay, vehicle: u8) -> Vehicle
+fn vehicle_of(p: Replay, vehicle: u8) -> Option<Flight>
     ensures { result ≡ vehicle_of p vehicle }
 {
-    if vehicle == 0 {
-        return p.v0;
-    }
-    p.v1
+    if vehicle == 0 { p.v0 } else { p.v1 }
 }
 
 // The replay with another state of one vehicle.
 fn with(p: Replay, vehicle: u8, f: Flight) -> Replay
     ensures { result ≡ with_of p vehicle f }
 {
-    let v0 = p.v0;
-    let v1 = p.v1;
     if vehicle == 0 {
-        return Replay {
-            v0: Vehicle::Set(f),
-            v1,
-        };
-    }
-    Replay {
-        v0,
-        v1: Vehicle::Set(f),
+        Replay { v0: Some(f), ..p }
+    } else {
+        Replay { v1: Some(f), ..p }
     }
 }
 
 // A vehicle through its burn.
-fn burn_from(mu: Mu, x: Vehicle, r: BurnRecord) -> Flown
+fn burn_from(mu: Mu, x: Option<Flight>, r: BurnRecord) -> Result<Flight, Refusal>
     ensures { result ≡ burn_from mu x r }
 {
-    let change = r.change;
-    match x {
-        Vehicle::Unset => Flown::Refused(20),
-        Vehicle::Set(f) => match flight::fly(mu, f, r.time) {
-            Flown::Refused(n) => Flown::Refused(n),
-            Flown::To(g) => flight::burn(g, change),
-        },
-    }
+    let f = x.ok_or(Refusal::NotSet)?;
+    let g = flight::fly(mu, f, r.time)?;
+    flight::burn(g, r.change)
 }
 
-// Both where both come through; vehicle 0's refusal before 1's.
-fn meet(x: Flown, y: Flown) -> Pair
-    ensures { result ≡ met_of x y }
-{
-    match x {
-        Flown::Refused(n) => Pair::Refused(n),
-        Flown::To(a) => match y {
-            Flown::Refused(n) => Pair::Refused(n),
-            Flown::To(b) => Pair::Both(a, b),
-        },
-    }
-}
-
-// Both vehicles at the time of a mark.
-fn fly_both(mu: Mu, a: Flight, b: Flight, time: i64) -> Pair
+// Both vehicles at the time of a mark; vehicle 0's refusal before 1's.
+fn fly_both(mu: Mu, a: Flight, b: Flight, time: i64) -> Result<(Flight, Flight), Refusal>
     ensures { result ≡ both_of mu a b time }
 {
     if a.body != b.body {
-        return Pair::Refused(21);
+        return Err(Refusal::TwoBodies);
     }
-    if flight::too_far(a, time) {
-        return Pair::Refused(5);
+    if flight::too_far(a, time) || flight::too_far(b, time) {
+        return Err(Refusal::TimeOutOfRange);
     }
-    if flight::too_far(b, time) {
-        return Pair::Refused(5);
-    }
-    meet(flight::fly(mu, a, time), flight::fly(mu, b, time))
+    Ok((flight::fly(mu, a, time)?, flight::fly(mu, b, time)?))
 }
 
-fn pair_from(mu: Mu, p: Replay, time: i64) -> Pair
+fn pair_from(mu: Mu, p: Replay, time: i64) -> Result<(Flight, Flight), Refusal>
     ensures { result ≡ pair_from mu p time }
 {
-    let x = p.v0;
-    let y = p.v1;
-    match x {
-        Vehicle::Unset => Pair::Refused(20),
-        Vehicle::Set(a) => match y {
-            Vehicle::Unset => Pair::Refused(20),
-            Vehicle::Set(b) => fly_both(mu, a, b, time),
-        },
-    }
+    let a = p.v0.ok_or(Refusal::NotSet)?;
+    let b = p.v1.ok_or(Refusal::NotSet)?;
+    fly_both(mu, a, b, time)
 }
 
 // A refused record leaves the replay as it is.
-fn refused(p: Replay, n: u32) -> Stepped
-    ensures { result ≡ refused_of p n }
+fn refused(p: Replay, refusal: Refusal) -> Stepped
+    ensures { result ≡ refused_of p refusal }
 {
     Stepped {
         replay: p,
-        answer: Answer::Refused(n),
+        answer: Answer::Refused(refusal),
     }
 }
 
 fn state_step(p: Replay, r: StateRecord) -> Stepped
     ensures { result ≡ state_step p r }
 {
-    let state = r.state;
     let f = Flight {
         body: r.body,
         time: r.time,
-        state,
+        state: r.state,
     };
-    let replay = with(p, r.vehicle, f);
     Stepped {
-        replay,
+        replay: with(p, r.vehicle, f),
         answer: Answer::Set,
     }
 }
@@ -156,11 +105,11 @@ fn burn_step(mu: Mu, p: Replay, r: BurnRecord) -> Stepped
     ensures { result ≡ burn_step mu p r }
 {
     match burn_from(mu, vehicle_of(p, r.vehicle), r) {
-        Flown::Refused(n) => refused(p, n),
-        Flown::To(f) => Stepped {
+        Ok(f) => Stepped {
             replay: with(p, r.vehicle, f),
             answer: Answer::Done,
         },
+        Err(refusal) => refused(p, refusal),
     }
 }
 
@@ -168,14 +117,14 @@ fn mark_step(mu: Mu, p: Replay, r: MarkRecord) -> Stepped
     ensures { result ≡ mark_step mu p r }
 {
     match pair_from(mu, p, r.time) {
-        Pair::Refused(n) => refused(p, n),
-        Pair::Both(a, b) => Stepped {
+        Ok((a, b)) => Stepped {
             replay: Replay {
-                v0: Vehicle::Set(a),
-                v1: Vehicle::Set(b),
+                v0: Some(a),
+                v1: Some(b),
             },
             answer: Answer::Off(flight::off(a, b, r.range)),
         },
+        Err(why) => refused(p, why),
     }
 }
 

@@ -1,4 +1,7 @@
 -- Why and the answer cannot disagree, by whatever version the request names: the reason's number is the answer's. Assumes nothing.
+use Rattle.std.specs.Prelude.{Err, Ok, Result}
+use Rattle.refusal.specs.declared.Refusal.{Refusal}
+use Rattle.settings.specs.declared.allowed.Setting.{Setting}
 use Prim.Native.Nat.{ℕ}
 use mathlib.Core.Path.{◌≡◌, refl, sym, ◌∙◌}
 use mathlib.Core.List.{List}
@@ -14,8 +17,6 @@ use Rattle.solve.specs.declared.Advanced.TheVariants as Ad
 use Rattle.solve.specs.declared.Transferred.{Transferred}
 use Rattle.solve.specs.declared.Transferred.TheVariants as Tr
 use Rattle.solve.specs.Answers.{advance_to, transfer_velocity_to, advanced_number, transferred_number}
-use Rattle.settings.specs.declared.Looked.{Looked}
-use Rattle.settings.specs.declared.Looked.TheVariants.{Found, Refused}
 use Rattle.settings.specs.History.{look_up}
 use Rattle.graded.specs.Graded.{fractions_of, graded_advanced, graded_transferred, advance_by, transfer_by}
 use Rattle.reason.specs.Reasons.{reason_number}
@@ -48,9 +49,9 @@ unfolding settled_by found_by advance_asked advance_by reason_number advanced_nu
 advance-agrees used Standard mu s t limit g = advance-number mu s t limit g
 advance-agrees used (Named k) mu s t limit g = go (look_up used k)
   where
-    go : (l : Looked) → reason_number (found_by l (why_advance mu s t limit g)) ≡ advanced_number (advance_by l mu s t limit g)
-    go (Found x) = advance-number mu s t limit g ∙ sym (advanced-same (fractions_of x) (size_of t) (advance_to mu s t limit g))
-    go (Refused n) = refl
+    go : (l : Result Setting Refusal) → reason_number (found_by l (why_advance mu s t limit g)) ≡ advanced_number (advance_by l mu s t limit g)
+    go (Ok x) = advance-number mu s t limit g ∙ sym (advanced-same (fractions_of x) (size_of t) (advance_to mu s t limit g))
+    go (Err n) = refl
 
 pub transfer-agrees : (used : List ℕ) (v : Version) (mu : Float) (first second : Vector) (way : Way) (t : Float) (limit : ℕ) (g : Beginning)
     → reason_number (settled_by used v (why_transfer mu first second way t limit g)) ≡ transferred_number (transfer_asked used v mu first second way t limit g)
@@ -58,6 +59,6 @@ unfolding settled_by found_by transfer_asked transfer_by reason_number transferr
 transfer-agrees used Standard mu first second way t limit g = transfer-number mu first second way t limit g
 transfer-agrees used (Named k) mu first second way t limit g = go (look_up used k)
   where
-    go : (l : Looked) → reason_number (found_by l (why_transfer mu first second way t limit g)) ≡ transferred_number (transfer_by l mu first second way t limit g)
-    go (Found x) = transfer-number mu first second way t limit g ∙ sym (transferred-same (fractions_of x) t (transfer_velocity_to mu first second way t limit g))
-    go (Refused n) = refl
+    go : (l : Result Setting Refusal) → reason_number (found_by l (why_transfer mu first second way t limit g)) ≡ transferred_number (transfer_by l mu first second way t limit g)
+    go (Ok x) = transfer-number mu first second way t limit g ∙ sym (transferred-same (fractions_of x) t (transfer_velocity_to mu first second way t limit g))
+    go (Err n) = refl

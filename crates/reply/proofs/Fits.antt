@@ -1,4 +1,5 @@
 -- Every reply fits its room, and a line is what its pieces are. Assumes nothing.
+use Rattle.std.specs.Prelude.{Result, Ok, Err}
 use Prim.Native.Nat.{ℕ, ◌≤◌}
 use mathlib.Core.List.{List}
 use lib.ListN.{length}
@@ -10,7 +11,7 @@ use Rattle.iterator.specs.Single.{single_trial_of}
 use Rattle.theta.specs.Theta.{theta_of}
 use Rattle.apsides.specs.Apsides.{apsides_of}
 use Rattle.forms.specs.declared.Request.{Request}
-use Rattle.forms.specs.declared.Request.TheVariants.{Nothing, Root, C, S, Trial, Burn, Unread}
+use Rattle.forms.specs.declared.Request.TheVariants.{Nothing, Root, C, S, Trial, Burn}
 use Rattle.forms.specs.declared.Request.TheVariants as Q
 use Rattle.forms.specs.declared.Look.{Look}
 use Rattle.forms.specs.declared.Look.TheVariants.{Wheel, Sight}
@@ -26,7 +27,7 @@ use Rattle.sight.specs.Sight.{sight_of}
 use Rattle.views.proofs.Lengths.{wheel-fits, sight-fits}
 use Rattle.burn.specs.Burn.{burn_of}
 use Rattle.changes.proofs.Lengths.{burn-fits}
-use Rattle.reply.specs.Replies.{reply_room, advance_asked, transfer_asked, solved_of, looked_of, reply_of}
+use Rattle.reply.specs.Replies.{reply_room, advance_asked, transfer_asked, solved_of, looked_of, reply_of, line_reply}
 
 solved-fits : (used : List ℕ) (x : Solve) → length (concat (solved_of used x)) ≤ reply_room
 unfolding solved_of
@@ -50,5 +51,8 @@ reply-fits used (Trial asked lo hi below above k) = tried-fits (single_trial_of 
 reply-fits used (Q.Look x) = looked-fits x
 reply-fits used (Q.Solve x) = solved-fits used x
 reply-fits used (Burn body radius mu active ta passive tp t2 t3) = burn-fits (burn_of (record { body = body; radius = radius; mu = mu }) active ta passive tp t2 t3)
-reply-fits used (Unread w) = unread-fits w
 reply-fits used (Q.Why x) = reason-fits (inquiry_of used x)
+
+pub line-fits : (used : List ℕ) (r : Result Request ℕ) → length (concat (line_reply used r)) ≤ reply_room
+line-fits used (Ok q) = reply-fits used q
+line-fits used (Err w) = unread-fits w

@@ -1,4 +1,5 @@
 -- What a version of the settings alters of a reply. Assumes nothing.
+use Rattle.std.specs.Prelude.{Result, Ok, Err}
 use Prim.Native.Nat.{ℕ}
 use mathlib.Core.Path.{◌≡◌, refl, sym, ap, ◌∙◌}
 use mathlib.Core.List.{List}
@@ -6,7 +7,7 @@ use Rattle.graded.proofs.Laws.{standard-advance, standard-transfer}
 use Rattle.graded.proofs.Laws as G
 use Rattle.solutions.specs.Solutions.{advanced_pieces, transferred_pieces}
 use Rattle.forms.specs.declared.Request.{Request}
-use Rattle.forms.specs.declared.Request.TheVariants.{Nothing, Root, C, S, Trial, Burn, Unread}
+use Rattle.forms.specs.declared.Request.TheVariants.{Nothing, Root, C, S, Trial, Burn}
 use Rattle.forms.specs.declared.Request.TheVariants as Q
 use Rattle.forms.specs.declared.Version.{Version}
 use Rattle.forms.specs.declared.Version.TheVariants.{Standard, Named}
@@ -14,7 +15,7 @@ use Rattle.forms.specs.declared.Solve.{Solve}
 use Rattle.forms.specs.declared.Solve.TheVariants.{Kepler, Lambert, Theta, Apsides}
 use Rattle.inquiry.specs.Inquiry.{settled_by, inquiry_of}
 use Rattle.reasons.specs.Lines.{reason_pieces}
-use Rattle.reply.specs.Replies.{advance_asked, transfer_asked, solved_of, reply_of}
+use Rattle.reply.specs.Replies.{advance_asked, transfer_asked, solved_of, reply_of, line_reply}
 
 -- the same solve by this version; two solves have no grade
 unfoldable pub by : Version → Solve → Solve
@@ -42,8 +43,11 @@ Unversioned (Trial asked lo hi below above k) = Prim.Unit
 Unversioned (Q.Look x) = Prim.Unit
 Unversioned (Q.Solve x) = x ≡ by Standard x
 Unversioned (Burn body radius mu active ta passive tp t2 t3) = Prim.Unit
-Unversioned (Unread w) = Prim.Unit
 Unversioned (Q.Why x) = x ≡ by Standard x
+
+abbrev pub UnversionedLine : Result Request ℕ → Type 0
+UnversionedLine (Ok q) = Unversioned q
+UnversionedLine (Err w) = Prim.Unit
 
 module _ (used other : List ℕ) where
   solved-alike : (x : Solve) → solved_of used (by Standard x) ≡ solved_of other (by Standard x)
@@ -69,5 +73,9 @@ module _ (used other : List ℕ) where
   not-looked-at (Q.Look x) h = refl
   not-looked-at (Q.Solve x) h = ap (solved_of used) h ∙ solved-alike x ∙ ap (solved_of other) (sym h)
   not-looked-at (Burn body radius mu active ta passive tp t2 t3) h = refl
-  not-looked-at (Unread w) h = refl
   not-looked-at (Q.Why x) h = ap reason_pieces (ap (inquiry_of used) h ∙ asked-alike x ∙ ap (inquiry_of other) (sym h))
+
+  -- nor for a line with a word that cannot be read
+  pub line-not-looked-at : (r : Result Request ℕ) → UnversionedLine r → line_reply used r ≡ line_reply other r
+  line-not-looked-at (Ok q) h = not-looked-at q h
+  line-not-looked-at (Err w) h = refl

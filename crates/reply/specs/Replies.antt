@@ -1,5 +1,5 @@
 -- What the desk replies to a line. Assumes nothing: these are definitions.
-use Rattle.std.specs.Prelude.{ℕ, List, [], Float}
+use Rattle.std.specs.Prelude.{ℕ, List, [], Float, Result, Ok, Err}
 use Rattle.text.specs.Pieces.{concat}
 use Rattle.columns.specs.Rows.{unread_pieces}
 use Rattle.root.specs.Root.{root_answer}
@@ -16,7 +16,7 @@ use Rattle.graded.specs.Graded.{graded_advance, graded_transfer}
 use Rattle.theta.specs.Theta.{theta_of}
 use Rattle.apsides.specs.Apsides.{apsides_of}
 use Rattle.forms.specs.declared.Request.{Request}
-use Rattle.forms.specs.declared.Request.TheVariants.{Nothing, Root, C, S, Trial, Burn, Unread}
+use Rattle.forms.specs.declared.Request.TheVariants.{Nothing, Root, C, S, Trial, Burn}
 use Rattle.forms.specs.declared.Request.TheVariants as Q
 use Rattle.forms.specs.declared.Look.{Look}
 use Rattle.forms.specs.declared.Look.TheVariants.{Wheel, Sight}
@@ -71,8 +71,12 @@ reply_of used (Q.Look x) = looked_of x
 reply_of used (Q.Solve x) = solved_of used x
 reply_of used (Burn body radius mu active ta passive tp t2 t3) =
     burn_pieces (burn_of (record { body = body; radius = radius; mu = mu }) active ta passive tp t2 t3)
-reply_of used (Unread w) = unread_pieces w
 reply_of used (Q.Why x) = reason_pieces (inquiry_of used x)
 
+-- a request answered, or the word that cannot be read
+abbrev pub line_reply : List ℕ → Result Request ℕ → List (List ℕ)
+line_reply used (Ok request) = reply_of used request
+line_reply used (Err w) = unread_pieces w
+
 abbrev pub reply_text : List ℕ → List ℕ → List ℕ
-reply_text used line = concat (reply_of used (request_of line))
+reply_text used line = concat (line_reply used (request_of line))

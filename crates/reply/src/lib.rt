@@ -4,14 +4,14 @@
 ghost use Rattle.std.specs.Prelude.{◌≡◌};
 ghost use Rattle.text.specs.Text.{InFront};
 ghost use Rattle.text.specs.Pieces.{Laid};
-ghost use Rattle.reply.specs.Replies.{reply_room, advance_asked, transfer_asked, solved_of, looked_of, reply_of, reply_text};
+ghost use Rattle.reply.specs.Replies.{reply_room, advance_asked, transfer_asked, solved_of, looked_of, reply_of, line_reply, reply_text};
 
 use burn::Centre;
 use forms::{Look, Request, Solve, Version};
 use iterator::Beginning;
 use lambert::Way;
+use refusal::Refusal;
 use solve::{Advanced, Transferred};
-use text::Made;
 use vector::{State, Vector};
 
 // The advance, graded by 01's fractions, or by those of a version of the settings in `used`.
@@ -144,19 +144,28 @@ fn answered(buf: &mut [u8], used: &[u8], request: Request) -> usize
             buf,
             burn::constant_height(Centre { body, radius, mu }, active, ta, passive, tp, t2, t3),
         ),
-        Request::Unread(w) => columns::unread(buf, w),
         Request::Why(x) => reasons::tell(buf, inquiry::reason_of(used, x)),
+    }
+}
+
+// A request answered, or the word that cannot be read.
+fn line_answered(buf: &mut [u8], used: &[u8], request: Result<Request, u64>) -> usize
+    ensures { Laid buf.old 0 (line_reply used.now request) buf.new result }
+{
+    match request {
+        Ok(x) => answered(buf, used, x),
+        Err(w) => columns::unread(buf, w),
     }
 }
 
 // The reply to a line, newline and all, made at the front of a lent buffer: its length, which is 0 where nothing is
 // asked, or 15 for a buffer of under 512 bytes, which stays as it was. `used` is the used part of the settings, empty
 // where there are none.
-pub fn reply(used: &[u8], line: &[u8], buf: &mut [u8]) -> Made
+pub fn reply(used: &[u8], line: &[u8], buf: &mut [u8]) -> Result<usize, Refusal>
     ensures { InFront reply_room (reply_text used.now line.now) buf.old buf.new result }
 {
     if buf.len() < 512 {
-        return Made::Refused(15);
+        return Err(Refusal::NoRoom);
     }
-    Made::Line(answered(buf, used, requests::read(line)))
+    Ok(line_answered(buf, used, requests::read(line)))
 }

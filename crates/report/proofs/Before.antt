@@ -1,5 +1,6 @@
 -- A session as document 01 knows it, without an offset's record and with no time over 2^53, has 01's listing to the byte.
 -- Assumes nothing.
+use Rattle.refusal.specs.Refusals.{number_of}
 use Prim.Native.Nat.{ℕ, zero, suc, ◌+◌}
 use mathlib.Core.Path.{◌≡◌, refl, sym, ap, ◌∙◌}
 use mathlib.Core.List.{List, [], ◌∷◌}
@@ -21,7 +22,7 @@ abbrev pub for-01 : Reading → Step
 for-01 (Record r p) = record { line = event_text (time_in r) (vehicle_in r) (kind_in r); next = At p }
 for-01 (Offset p) = record { line = []; next = Done }
 for-01 End = record { line = []; next = Done }
-for-01 (Refused n p) = record { line = refused_text n p.at; next = Done }
+for-01 (Refused n p) = record { line = refused_text (number_of n) p.at; next = Done }
 
 abbrev pub step-01 : List ℕ → Next → Step
 step-01 s Heading = record { line = heading_text; next = At start }

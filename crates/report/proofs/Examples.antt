@@ -1,4 +1,5 @@
 -- The document's listing, whole, and the same by a local clock; an unknown kind; an empty session; and every session that is too long. Assumes nothing.
+use Rattle.refusal.specs.declared.Refusal.TheVariants as Refusal
 use Prim.Native.Nat.{ℕ, ◌<◌}
 use mathlib.Core.Path.{◌≡◌, refl, ap, ◌∙◌}
 use mathlib.Core.List.{List, [], ◌∷◌, ◌++◌, append-nil}
@@ -37,7 +38,7 @@ no_record = refl
 -- `refused 12 at 0`
 pub too_long : (s : List ℕ) → 65536 < length s → listing_of s ≡ heading_text ++ refused_text 12 0
 too_long s h =
-    let r : read_at s start ≡ Refused 12 start = rw (lt-ltb 65536 (length s) h) refl in
+    let r : read_at s start ≡ Refused Refusal.WrongLength start = rw (lt-ltb 65536 (length s) h) refl in
     line-by-line s Heading refl
     ∙ ap (λ (l : List ℕ). heading_text ++ l)
     (line-by-line s (At start) refl

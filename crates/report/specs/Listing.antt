@@ -1,17 +1,15 @@
 -- The listing of a session, and what a buffer is filled with. Assumes nothing: these are definitions.
-use Rattle.std.specs.Prelude.{ℕ, zero, suc, ◌+◌, ◌-◌, ◌≡◌, List, [], ◌∷◌, ◌++◌, Bool, true, false, cond, length, drop, ltb}
+use Rattle.refusal.specs.declared.Refusal.{Refusal}
+use Rattle.refusal.specs.Refusals.{number_of}
+use Rattle.std.specs.Prelude.{ℕ, zero, suc, ◌+◌, ◌-◌, ◌≡◌, List, [], ◌∷◌, ◌++◌, Bool, true, false, cond, length, drop, ltb, Err, Ok, Result}
 use Rattle.session.specs.declared.Reading.{Reading}
 use Rattle.session.specs.declared.Reading.TheVariants.{Record, Offset, End, Refused}
 use Rattle.session.specs.declared.Place.{Place}
 use Rattle.session.specs.Read.{start, read_at}
-use Rattle.text.specs.declared.Made.{Made}
-use Rattle.text.specs.declared.Made.TheVariants as M
 use Rattle.lines.specs.Lines.{heading_text, record_text, refused_text}
 use Rattle.report.specs.declared.Next.{Next}
 use Rattle.report.specs.declared.Next.TheVariants.{Heading, At, Done}
 use Rattle.report.specs.declared.Filled.{Filled}
-use Rattle.report.specs.declared.Filling.{Filling}
-use Rattle.report.specs.declared.Filling.TheVariants as F
 
 -- a line, and what comes after it
 pub record Step : Type 0 where
@@ -24,7 +22,7 @@ abbrev pub step_for : Reading → Step
 step_for (Record r p) = record { line = record_text p.offset r; next = At p }
 step_for (Offset p) = record { line = []; next = At p }
 step_for End = record { line = []; next = Done }
-step_for (Refused n p) = record { line = refused_text n p.at; next = Done }
+step_for (Refused n p) = record { line = refused_text (number_of n) p.at; next = Done }
 
 abbrev pub step_at : List ℕ → Place → Step
 step_at s p = step_for (read_at s p)
@@ -70,8 +68,8 @@ pub record Fills (s : List ℕ) (next : Next) (d e : List ℕ) (r : Filled) : Ty
   pub buffer : e ≡ text_in (length d) (steps_from s next) ++ drop r.length d
 
 -- the same, unless d is under 40 bytes: then it stays as it was, and the answer is 15
-pub record FillOf (s : List ℕ) (next : Next) (d e : List ℕ) (r : Filling) : Type 0 where
-  pub answer : r ≡ cond (ltb (length d) 40) (F.Refused 15) (F.Lines (record { length = length (text_in (length d) (steps_from s next)); next = next_in (length d) next (steps_from s next) }))
+pub record FillOf (s : List ℕ) (next : Next) (d e : List ℕ) (r : Result Filled Refusal) : Type 0 where
+  pub answer : r ≡ cond (ltb (length d) 40) (Err Refusal.NoRoom) (Ok (record { length = length (text_in (length d) (steps_from s next)); next = next_in (length d) next (steps_from s next) }))
   pub buffer : e ≡ cond (ltb (length d) 40) d (text_in (length d) (steps_from s next) ++ drop (length (text_in (length d) (steps_from s next))) d)
 
 -- one step at the front of d
@@ -84,7 +82,3 @@ abbrev pub is_done : Next → Bool
 is_done Heading = false
 is_done (At p) = false
 is_done Done = true
-
-abbrev pub made_length : Made → ℕ
-made_length (M.Line n) = n
-made_length (M.Refused x) = 0

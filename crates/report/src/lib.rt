@@ -2,10 +2,10 @@
 #![tactic(auto)]
 
 ghost use Rattle.std.specs.Prelude.{◌≤◌, ◌≡◌, length};
-ghost use Rattle.report.specs.Listing.{is_done, step_at, step_of, Stepped, Fills, FillOf, made_length};
+ghost use Rattle.report.specs.Listing.{is_done, step_at, step_of, Stepped, Fills, FillOf};
 
+use refusal::Refusal;
 use session::{Place, Reading};
-use text::Made;
 
 // What the next line is: the heading, that of what stands at a place, or none.
 #[derive(Clone, Copy)]
@@ -22,21 +22,14 @@ pub struct Filled {
     pub next: Next,
 }
 
-// What is filled, or the number of the refusal.
-#[derive(Clone, Copy)]
-pub enum Filling {
-    Lines(Filled),
-    Refused(u32),
-}
-
 // The lines of the listing of s from `next` on, while 40 bytes are left in `out`.
-pub fn fill(s: &[u8], next: Next, out: &mut [u8]) -> Filling
+pub fn fill(s: &[u8], next: Next, out: &mut [u8]) -> Result<Filled, Refusal>
     ensures { FillOf s.now next out.old out.new result }
 {
     if out.len() < 40 {
-        return Filling::Refused(15);
+        return Err(Refusal::NoRoom);
     }
-    Filling::Lines(fill_lines(s, next, out))
+    Ok(fill_lines(s, next, out))
 }
 
 fn fill_lines(s: &[u8], next: Next, out: &mut [u8]) -> Filled
@@ -46,13 +39,10 @@ fn fill_lines(s: &[u8], next: Next, out: &mut [u8]) -> Filled
     let mut state = next;
     while out.len() - n >= 40 {
         if is_done(state) {
-            return Filled {
-                length: n,
-                next: state,
-            };
+            break;
         }
         let t = step(s, state, &mut out[n..]);
-        n = n + t.length;
+        n += t.length;
         state = t.next;
     }
     Filled {
@@ -64,11 +54,7 @@ fn fill_lines(s: &[u8], next: Next, out: &mut [u8]) -> Filled
 pub fn is_done(next: Next) -> bool
     ensures { result ≡ is_done next }
 {
-    match next {
-        Next::Heading => false,
-        Next::At(_) => false,
-        Next::Done => true,
-    }
+    matches!(next, Next::Done)
 }
 
 // One line at the front of `line`, and what comes after it.
@@ -78,9 +64,9 @@ fn step(s: &[u8], next: Next, line: &mut [u8]) -> Filled
 {
     match next {
         Next::Heading => {
-            let n = length_of(lines::heading(line));
+            let length = lines::heading(line).unwrap_or(0);
             Filled {
-                length: n,
+                length,
                 next: Next::At(Place { at: 0, offset: 0 }),
             }
         }
@@ -98,10 +84,9 @@ fn step_at(s: &[u8], place: Place, line: &mut [u8]) -> Filled
 {
     match session::read(place, s) {
         Reading::Record(r, behind) => {
-            let o = behind.offset;
-            let n = length_of(lines::record_line(line, r, o));
+            let length = lines::record_line(line, r, behind.offset).unwrap_or(0);
             Filled {
-                length: n,
+                length,
                 next: Next::At(behind),
             }
         }
@@ -113,22 +98,14 @@ fn step_at(s: &[u8], place: Place, line: &mut [u8]) -> Filled
             length: 0,
             next: Next::Done,
         },
-        Reading::Refused(number, at) => {
-            let p = at.at;
-            let n = length_of(lines::refused_line(line, number as u8, p as u64));
+        Reading::Refused(refusal, at) => {
+            let length = lines::refused_line(line, refusal.number() as u8, at.at as u64).unwrap_or(
+                0,
+            );
             Filled {
-                length: n,
+                length,
                 next: Next::Done,
             }
         }
-    }
-}
-
-fn length_of(m: Made) -> usize
-    ensures { result ≡ made_length m }
-{
-    match m {
-        Made::Line(n) => n,
-        Made::Refused(_) => 0,
     }
 }

@@ -5,76 +5,44 @@ ghost use Rattle.std.specs.Prelude.{◌≡◌};
 ghost use Rattle.words.specs.Words.{word_at};
 ghost use Rattle.forms.specs.Forms.{read_by};
 ghost use Rattle.solves.specs.Solves.{solve_form};
-ghost use Rattle.requests.specs.Requests.{root_form, c_form, s_form, routines, is_comment, request_of};
+ghost use Rattle.requests.specs.Requests.{AsksOne, routines, is_comment, request_of};
 
 use forms::Request;
-use solves::Given;
 
-fn root(line: &[u8]) -> Request
-    ensures { result ≡ read_by root_form 1 line.now }
+// One number, and no word more.
+fn one(line: &[u8]) -> Result<f64, u64>
+    ensures { AsksOne result line.now }
 {
-    let mut x = [0.0; 1];
-    let w = forms::only_numbers(line, 1, &mut x);
-    if w != 0 {
-        return Request::Unread(w);
-    }
-    Request::Root(x[0])
-}
-
-fn c(line: &[u8]) -> Request
-    ensures { result ≡ read_by c_form 1 line.now }
-{
-    let mut x = [0.0; 1];
-    let w = forms::only_numbers(line, 1, &mut x);
-    if w != 0 {
-        return Request::Unread(w);
-    }
-    Request::C(x[0])
-}
-
-fn s(line: &[u8]) -> Request
-    ensures { result ≡ read_by s_form 1 line.now }
-{
-    let mut x = [0.0; 1];
-    let w = forms::only_numbers(line, 1, &mut x);
-    if w != 0 {
-        return Request::Unread(w);
-    }
-    Request::S(x[0])
+    let [x] = forms::only_numbers::<1>(line, 1)?;
+    Ok(x)
 }
 
 // A solve, by its name.
-fn solve(line: &[u8]) -> Request
+fn solve(line: &[u8]) -> Result<Request, u64>
     ensures { result ≡ read_by (solve_form Request.Solve) 0 line.now }
 {
-    match solves::read(line, 0) {
-        Given::Read(x) => Request::Solve(x),
-        Given::Unread(w) => Request::Unread(w),
-    }
+    solves::read(line, 0).map(Request::Solve)
 }
 
 // The reason of a solve's answer: the solve stands behind the word.
-fn why(line: &[u8]) -> Request
+fn why(line: &[u8]) -> Result<Request, u64>
     ensures { result ≡ read_by (solve_form Request.Why) 1 line.now }
 {
-    match solves::read(line, 1) {
-        Given::Read(x) => Request::Why(x),
-        Given::Unread(w) => Request::Unread(w),
-    }
+    solves::read(line, 1).map(Request::Why)
 }
 
-fn routine(name: &[u8], line: &[u8]) -> Request
+fn routine(name: &[u8], line: &[u8]) -> Result<Request, u64>
     requires { name.now ≡ word_at 0 line.now }
     ensures { result ≡ read_by routines 0 line.now }
 {
     if words::is_word(name, b"root") {
-        return root(line);
+        return one(line).map(Request::Root);
     }
     if words::is_word(name, b"c") {
-        return c(line);
+        return one(line).map(Request::C);
     }
     if words::is_word(name, b"s") {
-        return s(line);
+        return one(line).map(Request::S);
     }
     if words::is_word(name, b"trial") {
         return single::trial(line);
@@ -97,25 +65,24 @@ fn routine(name: &[u8], line: &[u8]) -> Request
 fn is_comment(line: &[u8]) -> bool
     ensures { result ≡ is_comment line.now }
 {
-    if line.len() == 0 {
-        return false;
-    }
-    line[0] == b'#'
+    line.first() == Some(&b'#')
 }
 
-// What a line asks; the line is without its newline.
-pub fn read(line: &[u8]) -> Request
+// What a line asks, or the number of its first word that cannot be read; 0 for a line of over 1,000 bytes. The line is
+// without its newline.
+#[tactic(auto, unfolding(crate::specs::Requests::request_of))]
+pub fn read(line: &[u8]) -> Result<Request, u64>
     ensures { result ≡ request_of line.now }
 {
     if is_comment(line) {
-        return Request::Nothing;
+        return Ok(Request::Nothing);
     }
     if line.len() > 1000 {
-        return Request::Unread(0);
+        return Err(0);
     }
     let name = words::word(line, 0);
-    if name.len() == 0 {
-        return Request::Nothing;
+    if name.is_empty() {
+        return Ok(Request::Nothing);
     }
     routine(name, line)
 }

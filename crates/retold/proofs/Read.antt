@@ -1,4 +1,5 @@
 -- A number that was put as text is read as that number. Assumes nothing.
+use Rattle.std.specs.Prelude.{None, Some}
 use Prim.Native.Nat.{ℕ, zero, suc, ◌+◌, ◌-◌, ◌*◌, ◌/◌, ◌%◌, ◌^◌, ◌≤◌, ◌<◌}
 use native.Mathlib.Nat.{pow-suc}
 use native.Mathlib.Omega.{arith}
@@ -22,9 +23,6 @@ use Rattle.figures.proofs.Sizes.{bits-else}
 use Rattle.words.specs.Words.{blank}
 use Rattle.numerals.specs.Numbers as Num
 use Rattle.numerals.specs.Numbers.{digit_of, are_digits, value_of, word_digits, word_whole, word_signed, word_number, pattern_of, of_pattern}
-use Rattle.numerals.specs.declared.digits.Whole.TheVariants as W
-use Rattle.numerals.specs.declared.digits.Signed.TheVariants as S
-use Rattle.numerals.specs.declared.reals.Number.TheVariants as N
 use Rattle.numerals.proofs.Signs.{outside, inside}
 use Rattle.retold.proofs.Joined.{clean, some}
 
@@ -132,11 +130,11 @@ unfolding are_digits digit_of
 first-digit [] g = refl
 first-digit (b ∷ s) g = no_minus b (eqb b 45) refl (each (ltb (digit_of b) 10) (are_digits 10 s) g).0
 
-read-says : (base n : ℕ) (s : List ℕ) → Says base n s → n < 2 ^ 64 → word_digits base 0 s ≡ W.Read n
+read-says : (base n : ℕ) (s : List ℕ) → Says base n s → n < 2 ^ 64 → word_digits base 0 s ≡ Some n
 unfolding word_digits
 read-says base n s h l =
     let v : ltb (value_of base 0 s) (2 ^ 64) ≡ true = rw h.value (lt-ltb n (2 ^ 64) l) in
-    rw (both (are_digits base s) (ltb (value_of base 0 s) (2 ^ 64)) h.all v) (ap W.Read h.value)
+    rw (both (are_digits base s) (ltb (value_of base 0 s) (2 ^ 64)) h.all v) (ap Some h.value)
 
 some-append : (s : List ℕ) (b : ℕ) → some (s ++ (b ∷ [])) ≡ true
 some-append [] b = refl
@@ -165,19 +163,19 @@ module _ (n : ℕ) (h : n < 2 ^ 64) where
   pub decimal-clean : clean (decimal n) ≡ true
   decimal-clean = digits-clean 10 (decimal n) (omega arith) said.all
 
-  decimal-read : Num.word_decimal (decimal n) ≡ W.Read n
+  decimal-read : Num.word_decimal (decimal n) ≡ Some n
   unfolding Num.word_decimal
   decimal-read = rw (some-length (decimal n) (some-decimal n)) (read-says 10 n (decimal n) said h)
 
-  pub whole_back : word_whole (decimal n) ≡ W.Read n
+  pub whole_back : word_whole (decimal n) ≡ Some n
   unfolding word_whole
   whole_back = rw (first-digit (decimal n) said.all) decimal-read
 
-  signed_by : word_signed (decimal n) ≡ Num.plain (W.Read n)
+  signed_by : word_signed (decimal n) ≡ Num.plain (Some n)
   unfolding word_signed
   signed_by = rw (first-digit (decimal n) said.all) (ap Num.plain decimal-read)
 
-  signed-minus : word_signed (45 ∷ decimal n) ≡ Num.minus (W.Read n)
+  signed-minus : word_signed (45 ∷ decimal n) ≡ Num.minus (Some n)
   unfolding word_signed
   signed-minus = ap Num.minus decimal-read
 
@@ -189,7 +187,7 @@ pub signed-clean : (z : ℤ) → mag z < 2 ^ 63 → clean (signed_text z) ≡ tr
 signed-clean (pos n) h = decimal-clean n (omega arith)
 signed-clean (negsuc n) h = decimal-clean (n + 1) (omega arith)
 
-pub signed_back : (z : ℤ) → mag z < 2 ^ 63 → word_signed (signed_text z) ≡ S.Read z
+pub signed_back : (z : ℤ) → mag z < 2 ^ 63 → word_signed (signed_text z) ≡ Some z
 signed_back (pos n) h = signed_by n (omega arith) ∙ rw (lt-ltb n (2 ^ 63) h) refl
 signed_back (negsuc n) h =
     let e : n + 1 ≡ suc n = omega arith in
@@ -210,10 +208,10 @@ module _ (x : Float) (f : T (fits binary64 x)) (d : T (not (is_nan x))) where
   pub bits-clean : clean (bits_text x) ≡ true
   bits-clean = ap clean (bits-else x d) ∙ digits-clean 16 (places 16 16 (to_bits binary64 x)) (omega arith) bits-says.all
 
-  pub bits_back : word_number (bits_text x) ≡ N.Read x
+  pub bits_back : word_number (bits_text x) ≡ Some x
   unfolding word_number pattern_of
   bits_back =
       let n = to_bits binary64 x in
       ap word_number (bits-else x d)
-      ∙ ap (λ (b : Bool). cond b (of_pattern (word_digits 16 0 (places 16 16 n))) N.Unread) (eq-eqb _ _ (places-length 16 16 n))
-      ∙ ap of_pattern (read-says 16 n (places 16 16 n) bits-says below) ∙ ap N.Read (of_bits-to_bits binary64 x f)
+      ∙ ap (λ (b : Bool). cond b (of_pattern (word_digits 16 0 (places 16 16 n))) None) (eq-eqb _ _ (places-length 16 16 n))
+      ∙ ap of_pattern (read-says 16 n (places 16 16 n) bits-says below) ∙ ap Some (of_bits-to_bits binary64 x f)

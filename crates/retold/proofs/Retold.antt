@@ -1,5 +1,6 @@
 -- The line that is shown of a record says that record: to the bit, for every record that memory holds and the writer
 -- allows. Assumes nothing.
+use Rattle.std.specs.Prelude.{Ok, Some}
 use Prim.Native.Nat.{ℕ, ◌^◌, ◌≤◌, ◌<◌}
 use native.Mathlib.Omega.{arith}
 use mathlib.Core.Path.{◌≡◌, refl, sym, ap, ◌∙◌}
@@ -23,9 +24,6 @@ use Rattle.columns.specs.declared.Style.TheVariants.{Bits}
 use Rattle.columns.specs.Rows.{figure_text, row_pieces}
 use Rattle.words.specs.Words.{word_at, starts_with, is_word, is_end}
 use Rattle.numerals.specs.Numbers.{word_number, word_whole, word_signed}
-use Rattle.numerals.specs.declared.reals.Number.TheVariants as N
-use Rattle.numerals.specs.declared.digits.Whole.TheVariants as W
-use Rattle.numerals.specs.declared.digits.Signed.TheVariants as S
 use Rattle.figures.proofs.Lengths.{bits-short}
 use Rattle.text.proofs.Decimals.{at_most}
 use Rattle.session.specs.declared.record.Kind.{Kind}
@@ -95,24 +93,24 @@ named-mark l = refl
 
 -- ---- what the words of a line say
 
-module _ (l : List ℕ) {t : ℤ} (a : word_signed (word_at 1 l) ≡ S.Read t) where
-  offset_by_lem : is_end 2 l ≡ true → offset_entry l ≡ Offset t
+module _ (l : List ℕ) {t : ℤ} (a : word_signed (word_at 1 l) ≡ Some t) where
+  offset_by_lem : is_end 2 l ≡ true → offset_entry l ≡ Ok (Offset t)
   unfolding ended
   offset_by_lem e = rw (a, e) refl
 
-  module _ {v : ℕ} (b : word_whole (word_at 2 l) ≡ W.Read v) where
-    mark_by_lem : {x y : Float} → word_number (word_at 3 l) ≡ N.Read x → word_number (word_at 4 l) ≡ N.Read y → is_end 5 l ≡ true → mark_entry l ≡ Mark t v x y
+  module _ {v : ℕ} (b : word_whole (word_at 2 l) ≡ Some v) where
+    mark_by_lem : {x y : Float} → word_number (word_at 3 l) ≡ Some x → word_number (word_at 4 l) ≡ Some y → is_end 5 l ≡ true → mark_entry l ≡ Ok (Mark t v x y)
     unfolding ended
     mark_by_lem p q e = rw (a, b, p, q, e) refl
 
-    burn_by_lem : {x y z : Float} → word_number (word_at 3 l) ≡ N.Read x → word_number (word_at 4 l) ≡ N.Read y → word_number (word_at 5 l) ≡ N.Read z → is_end 6 l ≡ true
-        → burn_entry l ≡ Burn t v (record { x = x; y = y; z = z })
+    burn_by_lem : {x y z : Float} → word_number (word_at 3 l) ≡ Some x → word_number (word_at 4 l) ≡ Some y → word_number (word_at 5 l) ≡ Some z → is_end 6 l ≡ true
+        → burn_entry l ≡ Ok (Burn t v (record { x = x; y = y; z = z }))
     unfolding ended
     burn_by_lem p q r e = rw (a, b, p, q, r, e) refl
 
-    state_by_lem : {n : ℕ} {x y z u v' w : Float} → word_whole (word_at 3 l) ≡ W.Read n → word_number (word_at 4 l) ≡ N.Read x → word_number (word_at 5 l) ≡ N.Read y
-        → word_number (word_at 6 l) ≡ N.Read z → word_number (word_at 7 l) ≡ N.Read u → word_number (word_at 8 l) ≡ N.Read v' → word_number (word_at 9 l) ≡ N.Read w → is_end 10 l ≡ true
-        → state_entry l ≡ State t v n (record { rx = x; ry = y; rz = z; vx = u; vy = v'; vz = w })
+    state_by_lem : {n : ℕ} {x y z u v' w : Float} → word_whole (word_at 3 l) ≡ Some n → word_number (word_at 4 l) ≡ Some x → word_number (word_at 5 l) ≡ Some y
+        → word_number (word_at 6 l) ≡ Some z → word_number (word_at 7 l) ≡ Some u → word_number (word_at 8 l) ≡ Some v' → word_number (word_at 9 l) ≡ Some w → is_end 10 l ≡ true
+        → state_entry l ≡ Ok (State t v n (record { rx = x; ry = y; rz = z; vx = u; vy = v'; vz = w }))
     unfolding ended
     state_by_lem d p q r i j k e = rw (a, b, d, p, q, r, i, j, k, e) refl
 
@@ -121,18 +119,18 @@ module _ (l : List ℕ) {t : ℤ} (a : word_signed (word_at 1 l) ≡ S.Read t) w
 no_more : (k : ℕ) (ws : List (List ℕ)) → Words ws → first (drop k ws) ≡ [] → is_end k (line ws) ≡ true
 no_more k ws h e = ap (λ (w : List ℕ). eqb (length w) 0) (word-at k ws h ∙ e)
 
-signed_word : (k : ℕ) (ws : List (List ℕ)) → Words ws → (z : ℤ) → mag z < 2 ^ 63 → first (drop k ws) ≡ signed_text z → word_signed (word_at k (line ws)) ≡ S.Read z
+signed_word : (k : ℕ) (ws : List (List ℕ)) → Words ws → (z : ℤ) → mag z < 2 ^ 63 → first (drop k ws) ≡ signed_text z → word_signed (word_at k (line ws)) ≡ Some z
 signed_word k ws h z m e = ap word_signed (word-at k ws h ∙ e) ∙ signed_back z m
 
-whole_word : (k : ℕ) (ws : List (List ℕ)) → Words ws → (n : ℕ) → n < 2 ^ 64 → first (drop k ws) ≡ decimal n → word_whole (word_at k (line ws)) ≡ W.Read n
+whole_word : (k : ℕ) (ws : List (List ℕ)) → Words ws → (n : ℕ) → n < 2 ^ 64 → first (drop k ws) ≡ decimal n → word_whole (word_at k (line ws)) ≡ Some n
 whole_word k ws h n m e = ap word_whole (word-at k ws h ∙ e) ∙ whole_back n m
 
-number_word : (k : ℕ) (ws : List (List ℕ)) → Words ws → (x : Float) → T (fits binary64 x) → T (not (is_nan x)) → first (drop k ws) ≡ bits_text x → word_number (word_at k (line ws)) ≡ N.Read x
+number_word : (k : ℕ) (ws : List (List ℕ)) → Words ws → (x : Float) → T (fits binary64 x) → T (not (is_nan x)) → first (drop k ws) ≡ bits_text x → word_number (word_at k (line ws)) ≡ Some x
 number_word k ws h x f d e = ap word_number (word-at k ws h ∙ e) ∙ bits_back x f d
 
 -- ---- each line
 
-offset-line : (t : ℤ) → mag t < 2 ^ 63 → entry_of (line (ascii "offset" ∷ signed_text t ∷ [])) ≡ Offset t
+offset-line : (t : ℤ) → mag t < 2 ^ 63 → entry_of (line (ascii "offset" ∷ signed_text t ∷ [])) ≡ Ok (Offset t)
 unfolding starts_with
 offset-line t m =
     let ws = ascii "offset" ∷ signed_text t ∷ [] in
@@ -142,7 +140,7 @@ offset-line t m =
     ∙ offset_by_lem (line ws) (signed_word 1 ws h t m refl) (no_more 2 ws h refl)
 
 module _ (t : ℤ) (m : mag t < 2 ^ 63) (v : ℕ) (o : v < 2 ^ 64) where
-  mark-line : (x y : Float) → Numbers (x ∷ y ∷ []) → entry_of (line (ascii "mark" ∷ signed_text t ∷ decimal v ∷ patterns (x ∷ y ∷ []))) ≡ Mark t v x y
+  mark-line : (x y : Float) → Numbers (x ∷ y ∷ []) → entry_of (line (ascii "mark" ∷ signed_text t ∷ decimal v ∷ patterns (x ∷ y ∷ []))) ≡ Ok (Mark t v x y)
   unfolding starts_with
   mark-line x y n =
       let ws = ascii "mark" ∷ signed_text t ∷ decimal v ∷ patterns (x ∷ y ∷ []) in
@@ -152,7 +150,7 @@ module _ (t : ℤ) (m : mag t < 2 ^ 63) (v : ℕ) (o : v < 2 ^ 64) where
       ∙ mark_by_lem (line ws) (signed_word 1 ws h t m refl) (whole_word 2 ws h v o refl)
       (number_word 3 ws h x n.0 n.1 refl) (number_word 4 ws h y n.2.0 n.2.1 refl) (no_more 5 ws h refl)
 
-  burn-line : (x y z : Float) → Numbers (x ∷ y ∷ z ∷ []) → entry_of (line (ascii "burn" ∷ signed_text t ∷ decimal v ∷ patterns (x ∷ y ∷ z ∷ []))) ≡ Burn t v (record { x = x; y = y; z = z })
+  burn-line : (x y z : Float) → Numbers (x ∷ y ∷ z ∷ []) → entry_of (line (ascii "burn" ∷ signed_text t ∷ decimal v ∷ patterns (x ∷ y ∷ z ∷ []))) ≡ Ok (Burn t v (record { x = x; y = y; z = z }))
   unfolding starts_with
   burn-line x y z n =
       let ws = ascii "burn" ∷ signed_text t ∷ decimal v ∷ patterns (x ∷ y ∷ z ∷ []) in
@@ -164,7 +162,7 @@ module _ (t : ℤ) (m : mag t < 2 ^ 63) (v : ℕ) (o : v < 2 ^ 64) where
 
   state-line : (b : ℕ) → b < 2 ^ 64 → (x y z p q r : Float) → Numbers (x ∷ y ∷ z ∷ p ∷ q ∷ r ∷ [])
       → entry_of (line (ascii "state" ∷ signed_text t ∷ decimal v ∷ decimal b ∷ patterns (x ∷ y ∷ z ∷ p ∷ q ∷ r ∷ [])))
-      ≡ State t v b (record { rx = x; ry = y; rz = z; vx = p; vy = q; vz = r })
+      ≡ Ok (State t v b (record { rx = x; ry = y; rz = z; vx = p; vy = q; vz = r }))
   unfolding starts_with
   state-line b i x y z p q r n =
       let xs = x ∷ y ∷ z ∷ p ∷ q ∷ r ∷ [] in
@@ -203,7 +201,7 @@ byte_small r t h =
     omega (arith, c, t)
 
 -- a record's line says the record
-pub retold : (r : Record) → Held r → allowed_in r ≡ true → entry_of (line_text r) ≡ said_of r
+pub retold : (r : Record) → Held r → allowed_in r ≡ true → entry_of (line_text r) ≡ Ok (said_of r)
 unfolding concat
 retold (R.State r) h a =
     let s = r.state in
@@ -228,5 +226,5 @@ retold (R.Mark r) h a =
     ap entry_of e ∙ mark-line r.time h.time.sfits r.vehicle (vehicle-small (R.Mark r) a) r.range r.rate n
 
 -- and the offset's line the offset
-pub offset-retold : (z : ℤ) → SFits w16 z → entry_of (offset_text z) ≡ Offset z
+pub offset-retold : (z : ℤ) → SFits w16 z → entry_of (offset_text z) ≡ Ok (Offset z)
 offset-retold z f = ap (λ (l : List ℕ). entry_of (ascii "offset " ++ l)) (sym (append-nil (signed_text z))) ∙ offset-line z (omega (arith, f.sfits))

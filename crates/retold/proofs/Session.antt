@@ -1,4 +1,5 @@
 -- The lines that are shown of a whole session, entered, make its bytes. Assumes nothing.
+use Rattle.refusal.specs.declared.Refusal.TheVariants as Refusal
 use Prim.Native.Nat.{ℕ, ◌+◌, ◌≤◌}
 use native.Mathlib.Omega.{arith}
 use mathlib.Core.Path.{◌≡◌, refl, sym, ap, ◌∙◌}
@@ -41,38 +42,42 @@ use mir.Val.{SFits}
 use Rattle.entry.specs.declared.line.Entry.{Entry}
 use Rattle.entry.specs.declared.line.Entry.TheVariants as E
 use Rattle.entry.specs.Entries.{entry_of}
-use Rattle.enter.specs.declared.Entered.TheVariants as N
-use Rattle.enter.specs.Enter.{as_entered, entered_of, session_of}
+use Rattle.enter.specs.Enter.{as_entered, entry_written, entry_session, entered_of, session_of}
 use Rattle.book.specs.declared.Progress.{Progress}
-use Rattle.book.specs.declared.Progress.TheVariants.{Going}
+use Rattle.book.specs.declared.Ended.{Ended}
+use Rattle.std.specs.Prelude.{Ok, Result}
 use Rattle.book.specs.Book.{one_more, as_progress, progress_of, progress_over, written_by}
 use Rattle.book.proofs.Laws.{turns-none, turns_more}
 use Rattle.retold.specs.Said.{line_text, offset_text, said_of}
 use Rattle.retold.proofs.Retold.{retold, offset-retold}
 use Rattle.retold.proofs.TwoLines.{comment-skipped}
 
+-- one line more, and the place behind its record
+abbrev next_line : ℕ → Progress → Progress
+next_line a p = record { at = a; count = one_more p.count }
+
 -- a line that was entered leads on
-step : (d : List ℕ) (at k : ℕ) (l : List ℕ) (ls : List (List ℕ)) (e : Entry) (a : ℕ) (f : List ℕ) → entry_of l ≡ e → entered_of d at e ≡ N.Next a → session_of d at e ≡ f
-    → (progress_over (l ∷ ls) d (Going at k) ≡ progress_over ls f (Going a (one_more k))) × (written_by (l ∷ ls) d (Going at k) ≡ written_by ls f (Going a (one_more k)))
-step d at k l ls e a f h g i =
-    let t = turns_more d at k l ls in
-    let x : session_of d at (entry_of l) ≡ f = ap (session_of d at) h ∙ i in
-    let y : progress_of d at k l ≡ Going a (one_more k) = ap (as_progress (one_more k)) (ap (entered_of d at) h ∙ g) in (
-      t.0 ∙ ap (λ (z : List ℕ). progress_over ls z (progress_of d at k l)) x ∙ ap (progress_over ls f) y,
-      t.1 ∙ ap (λ (z : List ℕ). written_by ls z (progress_of d at k l)) x ∙ ap (written_by ls f) y,
+step : (d : List ℕ) (p : Progress) (l : List ℕ) (ls : List (List ℕ)) (e : Entry) (a : ℕ) (f : List ℕ) → entry_of l ≡ Ok e → entry_written d p.at e ≡ Ok a → entry_session d p.at e ≡ f
+    → (progress_over (l ∷ ls) d (Ok p) ≡ progress_over ls f (Ok (next_line a p))) × (written_by (l ∷ ls) d (Ok p) ≡ written_by ls f (Ok (next_line a p)))
+step d p l ls e a f h g i =
+    let t = turns_more d p l ls in
+    let x : session_of d p.at (entry_of l) ≡ f = ap (session_of d p.at) h ∙ i in
+    let y : progress_of d p l ≡ Ok (next_line a p) = ap (as_progress (one_more p.count)) (ap (entered_of d p.at) h ∙ ap as_entered g) in (
+      t.0 ∙ ap (λ (z : List ℕ). progress_over ls z (progress_of d p l)) x ∙ ap (progress_over ls f) y,
+      t.1 ∙ ap (λ (z : List ℕ). written_by ls z (progress_of d p l)) x ∙ ap (written_by ls f) y,
     )
 
 -- a record as a line says it is written as the record
-as-record : (d : List ℕ) (at : ℕ) (r : Record) → (entered_of d at (said_of r) ≡ as_entered (written_of d at r)) × (session_of d at (said_of r) ≡ buffer_of d at r)
+as-record : (d : List ℕ) (at : ℕ) (r : Record) → (entry_written d at (said_of r) ≡ written_of d at r) × (entry_session d at (said_of r) ≡ buffer_of d at r)
 as-record d at (R.State r) = (refl, refl)
 as-record d at (R.Burn r) = (refl, refl)
 as-record d at (R.Mark r) = (refl, refl)
 
 -- the record at a place of s, entered into a buffer that holds what is ahead of it
 pub record Entered (s d : List ℕ) (at to : ℕ) (e : Entry) : Type 0 where
-  pub answer : entered_of d at e ≡ N.Next to
-  pub wide : length s ≤ length (session_of d at e)
-  pub ahead : take to (session_of d at e) ≡ take to s
+  pub answer : entry_written d at e ≡ Ok to
+  pub wide : length s ≤ length (entry_session d at e)
+  pub ahead : take to (entry_session d at e) ≡ take to s
 
 record-entered : (s d : List ℕ) (p q : Place) (r : Record) → Bytes s → read_at s p ≡ A.Record r q → length s ≤ length d → take p.at d ≡ take p.at s → Entered s d p.at q.at (said_of r)
 record-entered s d p q r b e w h =
@@ -93,7 +98,7 @@ record-entered s d p q r b e w h =
     record { next = ap (λ (x : ℕ). at + x) (sym (bytes-of-length r)); within = omega (arith, g, w); whole = sym t.1 } in
     let c = as-record d at r in
     record {
-      answer = c.0 ∙ ap as_entered (sym t.0) ∙ ap N.Next k;
+      answer = c.0 ∙ sym t.0 ∙ ap Ok k;
       wide = rw (c.1, same_size u) w;
       ahead =
           ap (take q.at) c.1 ∙ ap (λ (x : ℕ). take x (buffer_of d at r)) (sym k) ∙ before-place u
@@ -119,7 +124,7 @@ offset-entered s d p q b e w h =
     let u : Stands d at (offset_bytes z) (offset_buffer d at z) (at + 8) =
     record { next = ap (λ (n : ℕ). at + n) (sym (offset-length z)); within = omega (arith, g, w); whole = sym t.1 } in
     record {
-      answer = ap as_entered (sym t.0) ∙ ap N.Next k;
+      answer = sym t.0 ∙ ap Ok k;
       wide = rw (same_size u) w;
       ahead =
           ap (λ (n : ℕ). take n (offset_buffer d at z)) (sym k) ∙ before-place u
@@ -133,7 +138,7 @@ not_end (D.Offset z) p e = let w : ◌≡◌ {A = ℕ} 0 1 = cc in let z : ⊥ =
 not_end (D.Refused n) p e = let w : ◌≡◌ {A = ℕ} 0 1 = cc in let z : ⊥ = omega arith in z
 
 only_end : (a b c d : Bool) (t p : Place) (x : Reading) → (x ≡ A.End → ⊥)
-    → cond a (A.Refused 12 t) (cond (not b) (A.Refused 14 p) (cond c (A.Refused 11 p) (cond d A.End x))) ≡ A.End → d ≡ true
+    → cond a (A.Refused Refusal.WrongLength t) (cond (not b) (A.Refused Refusal.NotAllowed p) (cond c (A.Refused Refusal.CutShort p) (cond d A.End x))) ≡ A.End → d ≡ true
 only_end true b c d t p x n e = let w : ◌≡◌ {A = ℕ} 0 1 = cc in let z : ⊥ = omega arith in absurd z
 only_end false false c d t p x n e = let w : ◌≡◌ {A = ℕ} 0 1 = cc in let z : ⊥ = omega arith in absurd z
 only_end false true true d t p x n e = let w : ◌≡◌ {A = ℕ} 0 1 = cc in let z : ⊥ = omega arith in absurd z
@@ -154,33 +159,33 @@ pub data Shown (s : List ℕ) : Place → List (List ℕ) → Type 0 where
   offset_at : {p q : Place} {c : List ℕ} {ls : List (List ℕ)} → read_at s p ≡ A.Offset q → Shown s q ls → Shown s p ((35 ∷ c) ∷ offset_text q.offset ∷ ls)
 
 -- no line was refused, the records end with the session, and up to there the buffer is the session
-pub record Same (s : List ℕ) (t : Progress) (e : List ℕ) : Type 0 where
+pub record Same (s : List ℕ) (t : Result Progress Ended) (e : List ℕ) : Type 0 where
   pub count : ℕ
-  pub turn : t ≡ Going (length s) count
+  pub turn : t ≡ Ok (record { at = length s; count = count })
   pub bytes : take (length s) e ≡ s
 
-same_as_lem : {s : List ℕ} {t u : Progress} {e f : List ℕ} → t ≡ u → e ≡ f → Same s u f → Same s t e
+same_as_lem : {s : List ℕ} {t u : Result Progress Ended} {e f : List ℕ} → t ≡ u → e ≡ f → Same s u f → Same s t e
 same_as_lem {s} p q x = record { count = x.count; turn = p ∙ x.turn; bytes = ap (take (length s)) q ∙ x.bytes }
 
 pub again : {s : List ℕ} {p : Place} {ls : List (List ℕ)} → Shown s p ls → Bytes s → (d : List ℕ) (k : ℕ) → length s ≤ length d → take p.at d ≡ take p.at s
-    → Same s (progress_over ls d (Going p.at k)) (written_by ls d (Going p.at k))
+    → Same s (progress_over ls d (Ok (record { at = p.at; count = k }))) (written_by ls d (Ok (record { at = p.at; count = k })))
 again {s} (end {p} e) b d k w h =
     let a = at-end s p e in
-    let t = turns-none d (Going p.at k) in
-    same_as_lem (t.0 ∙ ap (λ (n : ℕ). Going n k) a) t.1
+    let t = turns-none d (Ok (record { at = p.at; count = k })) in
+    same_as_lem (t.0 ∙ ap (λ (n : ℕ). Ok (record { at = n; count = k })) a) t.1
     (record { count = k; turn = refl; bytes = ap (λ (n : ℕ). take n d) (sym a) ∙ h ∙ ap (λ (n : ℕ). take n s) a ∙ take_all (length s) s (omega arith) })
 again {s} (record_at_lem {p} {q} {r} {c} {ls} e more) b d k w h =
     let f = found s p r q e in
     let g = decoded-allowed (drop p.at s) (bytes_drop p.at s b) r f.size f.whole in
     let x = record-entered s d p q r b e w h in
-    let i = step d p.at k (35 ∷ c) (line_text r ∷ ls) E.Nothing p.at d (comment-skipped c) refl refl in
-    let j = step d p.at (one_more k) (line_text r) ls (said_of r) q.at (session_of d p.at (said_of r)) (retold r g.1 g.0) x.answer refl in
-    same_as_lem (i.0 ∙ j.0) (i.1 ∙ j.1) (again more b (session_of d p.at (said_of r)) (one_more (one_more k)) x.wide x.ahead)
+    let i = step d (record { at = p.at; count = k }) (35 ∷ c) (line_text r ∷ ls) E.Nothing p.at d (comment-skipped c) refl refl in
+    let j = step d (record { at = p.at; count = one_more k }) (line_text r) ls (said_of r) q.at (entry_session d p.at (said_of r)) (retold r g.1 g.0) x.answer refl in
+    same_as_lem (i.0 ∙ j.0) (i.1 ∙ j.1) (again more b (entry_session d p.at (said_of r)) (one_more (one_more k)) x.wide x.ahead)
 again {s} (offset_at {p} {q} {c} {ls} e more) b d k w h =
     let z = q.offset in
     let o = at_offset (eqb p.at 0) (drop p.at s) z (offset-found s p q e).1 in
     let m : SFits w16 z = record { sfits = omega (arith, offset-small z o.allowed) } in
     let x = offset-entered s d p q b e w h in
-    let i = step d p.at k (35 ∷ c) (offset_text z ∷ ls) E.Nothing p.at d (comment-skipped c) refl refl in
-    let j = step d p.at (one_more k) (offset_text z) ls (E.Offset z) q.at (session_of d p.at (E.Offset z)) (offset-retold z m) x.answer refl in
-    same_as_lem (i.0 ∙ j.0) (i.1 ∙ j.1) (again more b (session_of d p.at (E.Offset z)) (one_more (one_more k)) x.wide x.ahead)
+    let i = step d (record { at = p.at; count = k }) (35 ∷ c) (offset_text z ∷ ls) E.Nothing p.at d (comment-skipped c) refl refl in
+    let j = step d (record { at = p.at; count = one_more k }) (offset_text z) ls (E.Offset z) q.at (entry_session d p.at (E.Offset z)) (offset-retold z m) x.answer refl in
+    same_as_lem (i.0 ∙ j.0) (i.1 ∙ j.1) (again more b (entry_session d p.at (E.Offset z)) (one_more (one_more k)) x.wide x.ahead)

@@ -1,4 +1,5 @@
 -- A record is shown as its comment, which is not read back, and its line, which is. Assumes nothing.
+use Rattle.std.specs.Prelude.{Ok}
 use Prim.Native.Nat.{ℕ}
 use mathlib.Core.Path.{◌≡◌, refl}
 use mathlib.Core.List.{List, [], ◌∷◌, ◌++◌, append_assoc, append-nil}
@@ -22,7 +23,7 @@ unfolding concat offset_pieces
 offset-lines z = simp (append_assoc, append-nil)
 
 -- a line that starts with `#` says nothing
-pub comment-skipped : (l : List ℕ) → entry_of (35 ∷ l) ≡ Nothing
+pub comment-skipped : (l : List ℕ) → entry_of (35 ∷ l) ≡ Ok Nothing
 unfolding entry_of starts_with
 comment-skipped [] = refl
 comment-skipped (b ∷ l) = refl

@@ -1,9 +1,9 @@
 -- What is met of a vector's components is finite. Assumes nothing.
-use Prim.Native.Nat.{ℕ}
 use mathlib.Core.Path.{◌≡◌, refl}
 use mathlib.Core.Bool.{Bool, true, ◌&&◌}
 use lib.Ieee.{of_bits}
 use Rattle.facts.proofs.Truth.{and_0, and-1}
+use Rattle.refusal.specs.declared.Refusal.{Refusal}
 use Rattle.real.specs.F64.{◌≤ᶠ◌, ◌<ᶠ◌, finite, two^, size_of}
 use Rattle.real.proofs.Finite.{size-under, size-at-most}
 use Rattle.table.specs.declared.Name.{Name}
@@ -17,7 +17,7 @@ pub record Finite (a : Vector) : Type 0 where
   pub y : finite a.y ≡ true
   pub z : finite a.z ≡ true
 
-pub position-finite : (n : ℕ) (name : Name) (r : Vector) → all_meet (position_components n name r) ≡ true → Finite r
+pub position-finite : (n : Refusal) (name : Name) (r : Vector) → all_meet (position_components n name r) ≡ true → Finite r
 unfolding of_bits
 position-finite n name r h =
     let x : Bool = size_of r.x <ᶠ two^ 29 in
@@ -30,7 +30,7 @@ position-finite n name r h =
       z = size-under r.z (two^ 29) refl (and_0 z true (and-1 y (z && true) yz));
     }
 
-pub velocity-finite : (n : ℕ) (name : Name) (v : Vector) → all_meet (velocity_components n name v) ≡ true → Finite v
+pub velocity-finite : (n : Refusal) (name : Name) (v : Vector) → all_meet (velocity_components n name v) ≡ true → Finite v
 unfolding of_bits
 velocity-finite n name v h =
     let x : Bool = size_of v.x ≤ᶠ two^ 7 in

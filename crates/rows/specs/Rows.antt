@@ -1,5 +1,7 @@
 -- Rows 1 to 5 of the refusal table, and the radius of row 22. Assumes nothing: these are definitions.
 use Rattle.std.specs.Prelude.{ℕ, List, [], ◌∷◌, ◌++◌, Float}
+use Rattle.refusal.specs.declared.Refusal.TheVariants as Refusal
+use Rattle.refusal.specs.declared.Refusal.{Refusal}
 use Rattle.real.specs.F64.{two^, f0}
 use Rattle.table.specs.declared.Name.{Name}
 use Rattle.table.specs.declared.Name.TheVariants.{Mu, Position, Velocity, Time, Radius}
@@ -13,10 +15,10 @@ use Rattle.vector.specs.Vectors.{position_of, velocity_of}
 
 -- 1: an input number is infinite or not a number
 abbrev pub finite_number : Name → Float → List Entry
-finite_number name x = entry 1 name Whole x Finite ∷ []
+finite_number name x = entry Refusal.NotFinite name Whole x Finite ∷ []
 
 abbrev pub finite_vector : Name → Vector → List Entry
-finite_vector name a = entry 1 name X a.x Finite ∷ entry 1 name Y a.y Finite ∷ entry 1 name Z a.z Finite ∷ []
+finite_vector name a = entry Refusal.NotFinite name X a.x Finite ∷ entry Refusal.NotFinite name Y a.y Finite ∷ entry Refusal.NotFinite name Z a.z Finite ∷ []
 
 -- of mu and two vectors, in the order written
 abbrev pub finite_inputs : Float → Name → Vector → Name → Vector → List Entry
@@ -24,40 +26,40 @@ finite_inputs mu first a second b = finite_number Mu mu ++ finite_vector first a
 
 -- 2: mu is not in 2^28 ≤ mu < 2^36
 abbrev pub mu_row : Float → List Entry
-mu_row mu = entry 2 Mu Whole mu (AtLeast (two^ 28)) ∷ entry 2 Mu Whole mu (Under (two^ 36)) ∷ []
+mu_row mu = entry Refusal.MuOutOfRange Mu Whole mu (AtLeast (two^ 28)) ∷ entry Refusal.MuOutOfRange Mu Whole mu (Under (two^ 36)) ∷ []
 
 -- a position component is 2^29 or more in size
-abbrev pub position_components : ℕ → Name → Vector → List Entry
-position_components number name r =
-    entry number name X r.x (SizeUnder (two^ 29))
-    ∷ entry number name Y r.y (SizeUnder (two^ 29))
-    ∷ entry number name Z r.z (SizeUnder (two^ 29))
+abbrev pub position_components : Refusal → Name → Vector → List Entry
+position_components refusal name r =
+    entry refusal name X r.x (SizeUnder (two^ 29))
+    ∷ entry refusal name Y r.y (SizeUnder (two^ 29))
+    ∷ entry refusal name Z r.z (SizeUnder (two^ 29))
     ∷ []
 
 -- 3: a position component is 2^29 or more in size, or the length is not in 2^18 ≤ r < 2^29
 abbrev pub position_row : Name → Vector → Float → List Entry
 position_row name r length =
-    position_components 3 name r ++ (entry 3 name Length length (AtLeast (two^ 18)) ∷ entry 3 name Length length (Under (two^ 29)) ∷ [])
+    position_components Refusal.PositionOutOfRange name r ++ (entry Refusal.PositionOutOfRange name Length length (AtLeast (two^ 18)) ∷ entry Refusal.PositionOutOfRange name Length length (Under (two^ 29)) ∷ [])
 
 -- 4, and part of 9: a velocity component is over 2^7 in size
-abbrev pub velocity_components : ℕ → Name → Vector → List Entry
-velocity_components number name v =
-    entry number name X v.x (SizeAtMost (two^ 7))
-    ∷ entry number name Y v.y (SizeAtMost (two^ 7))
-    ∷ entry number name Z v.z (SizeAtMost (two^ 7))
+abbrev pub velocity_components : Refusal → Name → Vector → List Entry
+velocity_components refusal name v =
+    entry refusal name X v.x (SizeAtMost (two^ 7))
+    ∷ entry refusal name Y v.y (SizeAtMost (two^ 7))
+    ∷ entry refusal name Z v.z (SizeAtMost (two^ 7))
     ∷ []
 
 -- 2 to 4, of mu and a state whose position has this length
 abbrev pub state_rows : Float → State → Float → List Entry
-state_rows mu s length = mu_row mu ++ position_row Position (position_of s) length ++ velocity_components 4 Velocity (velocity_of s)
+state_rows mu s length = mu_row mu ++ position_row Position (position_of s) length ++ velocity_components Refusal.VelocityOutOfRange Velocity (velocity_of s)
 
 -- 5: time over 2^28 in size; for Lambert also time ≤ 0
 abbrev pub time_row : Float → List Entry
-time_row t = entry 5 Time Whole t (SizeAtMost (two^ 28)) ∷ []
+time_row t = entry Refusal.TimeOutOfRange Time Whole t (SizeAtMost (two^ 28)) ∷ []
 
 abbrev pub transfer_time_row : Float → List Entry
-transfer_time_row t = time_row t ++ (entry 5 Time Whole t (Over f0) ∷ [])
+transfer_time_row t = time_row t ++ (entry Refusal.TimeOutOfRange Time Whole t (Over f0) ∷ [])
 
 -- 22: a radius not over 0 and under 2^29
 abbrev pub radius_row : Float → List Entry
-radius_row radius = entry 22 Radius Whole radius (Over f0) ∷ entry 22 Radius Whole radius (Under (two^ 29)) ∷ []
+radius_row radius = entry Refusal.SettingOutOfRange Radius Whole radius (Over f0) ∷ entry Refusal.SettingOutOfRange Radius Whole radius (Under (two^ 29)) ∷ []

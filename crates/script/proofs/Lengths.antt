@@ -1,4 +1,5 @@
 -- The lines of every record fit 512 bytes. Assumes nothing.
+use Rattle.refusal.specs.Refusals.{number_of}
 use Prim.Native.Nat.{ℕ, ◌+◌, ◌*◌, ◌≤◌}
 use native.Mathlib.Omega.{arith}
 use mathlib.Core.List.{List}
@@ -65,4 +66,4 @@ unfolding concat offset_pieces refused_pieces
 all-fit-room (A.Record r p) = record-most p.offset r
 all-fit-room (A.Offset p) = simp length-append (omega (arith, signed-short p.offset))
 all-fit-room A.End = lit≤ tt
-all-fit-room (A.Refused n p) = simp length-append (omega (arith, at_most 20 n, at_most 20 p.at))
+all-fit-room (A.Refused n p) = simp length-append (omega (arith, at_most 20 (number_of n), at_most 20 p.at))

@@ -1,5 +1,7 @@
 -- A session as text: what is said of each record, piece by piece. Assumes nothing: these are definitions.
-use Rattle.std.specs.Prelude.{ℕ, ◌≡◌, List, [], ◌∷◌, ◌++◌, cond, length, drop, ltb, ℤ, Float}
+use Rattle.std.specs.Prelude.{ℕ, ◌≡◌, List, [], ◌∷◌, ◌++◌, cond, length, drop, ltb, ℤ, Float, Err, None, Ok, Option, Result, Some}
+use Rattle.refusal.specs.declared.Refusal.{Refusal}
+use Rattle.refusal.specs.Refusals.{number_of}
 use Rattle.text.specs.Text.{ascii, decimal, signed_text}
 use Rattle.text.specs.Pieces.{concat}
 use Rattle.columns.specs.declared.Style.TheVariants.{Places, Bits}
@@ -16,7 +18,6 @@ use Rattle.session.specs.Read.{read_at}
 use Rattle.lines.specs.Days.{local_of, day_of, cs_of}
 use Rattle.lines.specs.Lines.{refused_pieces}
 use Rattle.script.specs.declared.Shown.{Shown}
-use Rattle.script.specs.declared.Shown.TheVariants.{Lines, Last, Refused}
 
 -- the bytes that hold the lines of every record
 abbrev pub script_room : ℕ
@@ -65,14 +66,17 @@ abbrev pub pieces_of : Reading → List (List ℕ)
 pieces_of (A.Record r p) = record_pieces p.offset r
 pieces_of (A.Offset p) = offset_pieces p.offset
 pieces_of A.End = []
-pieces_of (A.Refused n p) = refused_pieces (ascii "# refused ") n p.at
+pieces_of (A.Refused n p) = refused_pieces (ascii "# refused ") (number_of n) p.at
 
 -- and where to go on: behind a record and behind the offset's, nowhere else
+abbrev pub next_of : Reading → Option Place
+next_of (A.Record r p) = Some p
+next_of (A.Offset p) = Some p
+next_of A.End = None
+next_of (A.Refused m p) = None
+
 abbrev pub shown_as : Reading → ℕ → Shown
-shown_as (A.Record r p) n = Lines n p
-shown_as (A.Offset p) n = Lines n p
-shown_as A.End n = Last n
-shown_as (A.Refused m p) n = Last n
+shown_as r n = record { length = n; next = next_of r }
 
 -- the lines of what stands at a place
 abbrev pub text_at : List ℕ → Place → List ℕ
@@ -80,6 +84,6 @@ text_at s p = concat (pieces_of (read_at s p))
 
 -- made in the buffer d, which makes e, and r is answered: they stand at the front and the bytes past them as they were;
 -- if d has less than the room it stays as it was, and the answer is 15
-pub record ShownAt (s : List ℕ) (p : Place) (d e : List ℕ) (r : Shown) : Type 0 where
-  pub answer : r ≡ cond (ltb (length d) script_room) (Refused 15) (shown_as (read_at s p) (length (text_at s p)))
+pub record ShownAt (s : List ℕ) (p : Place) (d e : List ℕ) (r : Result Shown Refusal) : Type 0 where
+  pub answer : r ≡ cond (ltb (length d) script_room) (Err Refusal.NoRoom) (Ok (shown_as (read_at s p) (length (text_at s p))))
   pub buffer : e ≡ cond (ltb (length d) script_room) d (text_at s p ++ drop (length (text_at s p)) d)

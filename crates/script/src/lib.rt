@@ -5,18 +5,18 @@ mod records;
 
 ghost use Rattle.text.specs.Pieces.{Laid};
 ghost use Rattle.std.specs.Prelude.{◌≡◌};
-ghost use Rattle.script.specs.Script.{pieces_of, shown_as, ShownAt};
+ghost use Rattle.script.specs.Script.{pieces_of, next_of, ShownAt};
 
 use records::{offset_lines, record_lines};
+use refusal::Refusal;
 use session::{Place, Reading};
 
-// How many bytes the lines of a record have, and where to go on; how many the last line has, which is none at the
-// session's end; or the number of the refusal.
+// How many bytes the lines of what was read have, and where to go on: behind a record, and nowhere behind a refusal and at
+// the session's end, which has no line.
 #[derive(Clone, Copy)]
-pub enum Shown {
-    Lines(usize, Place),
-    Last(usize),
-    Refused(u32),
+pub struct Shown {
+    pub length: usize,
+    pub next: Option<Place>,
 }
 
 // The lines of what was read, at the front of a lent buffer.
@@ -33,32 +33,34 @@ fn lines_of(buf: &mut [u8], r: Reading) -> usize
             offset_lines(buf, o)
         }
         Reading::End => 0,
-        Reading::Refused(n, place) => {
+        Reading::Refused(refusal, place) => {
             let at = place.at;
-            lines::refused_at(buf, b"# refused ", n as u64, at as u64)
+            lines::refused_at(buf, b"# refused ", refusal.number() as u64, at as u64)
         }
     }
 }
 
-fn next_of(r: Reading, n: usize) -> Shown
-    ensures { result ≡ shown_as r n }
+fn next_of(r: Reading) -> Option<Place>
+    ensures { result ≡ next_of r }
 {
     match r {
-        Reading::Record(_, place) => Shown::Lines(n, place),
-        Reading::Offset(place) => Shown::Lines(n, place),
-        Reading::End => Shown::Last(n),
-        Reading::Refused(_, _) => Shown::Last(n),
+        Reading::Record(_, place) | Reading::Offset(place) => Some(place),
+        Reading::End | Reading::Refused(_, _) => None,
     }
 }
 
 // The lines of what stands at a place of a session, newlines and all, made at the front of a lent buffer: their length
 // and the place behind, or 15 for a buffer of under 512 bytes, which stays as it was.
-pub fn show_at(s: &[u8], place: Place, buf: &mut [u8]) -> Shown
+pub fn show_at(s: &[u8], place: Place, buf: &mut [u8]) -> Result<Shown, Refusal>
     ensures { ShownAt s.now place buf.old buf.new result }
 {
     if buf.len() < 512 {
-        return Shown::Refused(15);
+        return Err(Refusal::NoRoom);
     }
     let r = session::read(place, s);
-    next_of(r, lines_of(buf, r))
+    let length = lines_of(buf, r);
+    Ok(Shown {
+        length,
+        next: next_of(r),
+    })
 }

@@ -1,4 +1,6 @@
 -- Every decoded record is allowed and is held, so that its bytes decode to it again: once over the kind. Assumes nothing.
+use Rattle.std.specs.Prelude.{Err, Ok, Result}
+use Rattle.refusal.specs.declared.Refusal.{Refusal}
 use Prim.Native.Nat.{ℕ, zero, suc, ◌+◌, ◌≤◌}
 use native.Mathlib.Omega.{arith}
 use mathlib.Core.Path.{◌≡◌, refl, sym, ap, ◌∙◌}
@@ -14,8 +16,6 @@ use mir.Facts.{sfits_to_z}
 use borrow.Author.Tests.{le-leb}
 use Rattle.session.specs.declared.record.Kind.{Kind}
 use Rattle.session.specs.declared.record.Kind.TheVariants.{State, Burn, Mark}
-use Rattle.session.specs.declared.record.Head.{Head}
-use Rattle.session.specs.declared.record.Head.TheVariants.{Good, Bad}
 use Rattle.session.specs.declared.record.Record.{Record}
 use Rattle.session.specs.declared.record.Decoded.TheVariants.{Whole}
 use Rattle.field.specs.Bytes.{field}
@@ -55,14 +55,14 @@ module _ (s : List ℕ) where
   own_held Mark h = record { time = h; numbers = all_fit 0 2 }
 
   module _ (bytes : Bytes s) where
-    head-held : (h : Head) (r : Record) (n : ℕ) → h ≡ head_of s → decoded h s ≡ Whole r n → (allowed_in r ≡ true) × Held r
-    head-held (Good k) r n e p =
+    head-held : (h : Result Kind Refusal) (r : Record) (n : ℕ) → h ≡ head_of s → decoded h s ≡ Whole r n → (allowed_in r ≡ true) × Held r
+    head-held (Ok k) r n e p =
         let x : record_at k s ≡ r = cc in
         let h = good-head s k (sym e) in
         let l : 6 + 8 ≤ length s = omega (arith, h.size, length-law k) in
         let f : SFits w64 (time_at s) = sfits_to_z {w = w64} {n = field 6 8 s} (record { fits = field_below s bytes 6 8 l }) in
         rw (← x) (own-allowed k h.byte ∙ allowed_at_lem k h, own_held k f)
-    head-held (Bad x) r n e p = let z : ◌≡◌ {A = ℕ} 0 1 = cc in let w : ⊥ = omega arith in absurd w
+    head-held (Err x) r n e p = let z : ◌≡◌ {A = ℕ} 0 1 = cc in let w : ⊥ = omega arith in absurd w
 
     pub decoded-allowed : (r : Record) (n : ℕ) → decode_of s ≡ Whole r n → (allowed_in r ≡ true) × Held r
     decoded-allowed r n p = head-held (head_of s) r n refl p

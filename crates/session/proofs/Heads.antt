@@ -1,4 +1,6 @@
 -- What a record that passed its tests is known to have, once over the kind. Assumes nothing.
+use Rattle.std.specs.Prelude.{Err, None, Ok, Option, Result, Some}
+use Rattle.refusal.specs.declared.Refusal.{Refusal}
 use Prim.Native.Nat.{ℕ, ◌≤◌}
 use native.Mathlib.Omega.{arith}
 use mathlib.Core.Path.{◌≡◌, refl, sym}
@@ -10,10 +12,6 @@ use borrow.Author.Tests.{ltb-false, leb-true, eqb-true}
 use Rattle.facts.proofs.Truth.{each}
 use Rattle.session.specs.declared.record.Kind.{Kind}
 use Rattle.session.specs.declared.record.Kind.TheVariants.{State, Burn, Mark}
-use Rattle.session.specs.declared.record.Found.{Found}
-use Rattle.session.specs.declared.record.Found.TheVariants.{Known, Unknown}
-use Rattle.session.specs.declared.record.Head.{Head}
-use Rattle.session.specs.declared.record.Head.TheVariants.{Good, Bad}
 use Rattle.session.specs.declared.record.Record.{Record}
 use Rattle.session.specs.declared.record.Decoded.TheVariants.{Whole}
 use Rattle.field.specs.Bytes.{field}
@@ -23,20 +21,20 @@ use Rattle.session.specs.Kinds.{kind_of, record_length, count_of, top_of}
 use Rattle.session.specs.Decode.{allowed_at, judged, head_of, decoded, decode_of}
 use Rattle.session.proofs.Table.{long}
 
-never : {X : Type 0} (n : ℕ) (k : Kind) → Bad n ≡ Good k → X
-never n k p = let z : ◌≡◌ {A = ℕ} 0 1 = cc in let w : ⊥ = omega arith in absurd w
+never : {X : Type 0} (n : Refusal) (k : Kind) → Err n ≡ Ok k → X
+never n k p = absurd (cc)
 
 -- only a good head passes
-tests : (e l a : Bool) (j k : Kind) → cond (not e) (Bad 12) (cond l (Bad 11) (cond a (Good j) (Bad 14))) ≡ Good k
+tests : (e l a : Bool) (j k : Kind) → cond (not e) (Err Refusal.WrongLength) (cond l (Err Refusal.CutShort) (cond a (Ok j) (Err Refusal.NotAllowed))) ≡ Ok k
     → (e ≡ true) × (l ≡ false) × (a ≡ true) × (j ≡ k)
-tests false l a j k p = never 12 k p
-tests true true a j k p = never 11 k p
-tests true false false j k p = never 14 k p
+tests false l a j k p = never Refusal.WrongLength k p
+tests true true a j k p = never Refusal.CutShort k p
+tests true false false j k p = never Refusal.NotAllowed k p
 tests true false true j k p = (refl, refl, refl, cc)
 
-front : (a b : Bool) (h : Head) (k : Kind) → cond a (Bad 11) (cond b (Bad 12) h) ≡ Good k → h ≡ Good k
-front true b h k p = never 11 k p
-front false true h k p = never 12 k p
+front : (a b : Bool) (h : Result Kind Refusal) (k : Kind) → cond a (Err Refusal.CutShort) (cond b (Err Refusal.WrongLength) h) ≡ Ok k → h ≡ Ok k
+front true b h k p = never Refusal.CutShort k p
+front false true h k p = never Refusal.WrongLength k p
 front false false h k p = p
 
 -- what each test has shown
@@ -48,9 +46,9 @@ pub record Holds (k : Kind) (s : List ℕ) : Type 0 where
   pub time : time_allowed (time_at s) ≡ true
   pub numbers : all_finite (numbers_from 0 (count_of k) s) ≡ true
 
-judged-good : (f : Found) (s : List ℕ) (k : Kind) → judged f s ≡ Good k → (f ≡ Known k) × Holds k s
-judged-good Unknown s k p = never 13 k p
-judged-good (Known j) s k p =
+judged-good : (f : Option Kind) (s : List ℕ) (k : Kind) → judged f s ≡ Ok k → (f ≡ Some k) × Holds k s
+judged-good None s k p = never Refusal.UnknownKind k p
+judged-good (Some j) s k p =
     let t = tests (eqb (field 0 2 s) (record_length j)) (ltb (length s) (record_length j)) (allowed_at j s) j k p in
     let b = each (leb (vehicle_at s) 1 && leb (byte_at s) (top_of j) && time_allowed (time_at s)) (all_finite (numbers_from 0 (count_of j) s)) t.2 in
     let m = each (leb (vehicle_at s) 1 && leb (byte_at s) (top_of j)) (time_allowed (time_at s)) b.0 in
@@ -67,24 +65,24 @@ judged-good (Known j) s k p =
       },
     )
 
-good : (s : List ℕ) (k : Kind) → head_of s ≡ Good k → (kind_of (field 2 2 s) ≡ Known k) × Holds k s
+good : (s : List ℕ) (k : Kind) → head_of s ≡ Ok k → (kind_of (field 2 2 s) ≡ Some k) × Holds k s
 good s k p = judged-good (kind_of (field 2 2 s)) s k (front (ltb (length s) 4) (ltb (field 0 2 s) 4) (judged (kind_of (field 2 2 s)) s) k p)
 
-pub good-kind : (s : List ℕ) (k : Kind) → head_of s ≡ Good k → kind_of (field 2 2 s) ≡ Known k
+pub good-kind : (s : List ℕ) (k : Kind) → head_of s ≡ Ok k → kind_of (field 2 2 s) ≡ Some k
 good-kind s k p = (good s k p).0
 
-pub good-head : (s : List ℕ) (k : Kind) → head_of s ≡ Good k → Holds k s
+pub good-head : (s : List ℕ) (k : Kind) → head_of s ≡ Ok k → Holds k s
 good-head s k p = (good s k p).1
 
-fits-of : (h : Head) (s : List ℕ) (r : Record) (n : ℕ) → h ≡ head_of s → decoded h s ≡ Whole r n → (30 ≤ n) × (n ≤ length s)
-fits-of (Good k) s r n e p = let q : record_length k ≡ n = cc in rw (← q) (long k, (good-head s k (sym e)).size)
-fits-of (Bad x) s r n e p = let z : ◌≡◌ {A = ℕ} 0 1 = cc in let w : ⊥ = omega arith in absurd w
+fits-of : (h : Result Kind Refusal) (s : List ℕ) (r : Record) (n : ℕ) → h ≡ head_of s → decoded h s ≡ Whole r n → (30 ≤ n) × (n ≤ length s)
+fits-of (Ok k) s r n e p = let q : record_length k ≡ n = cc in rw (← q) (long k, (good-head s k (sym e)).size)
+fits-of (Err x) s r n e p = let z : ◌≡◌ {A = ℕ} 0 1 = cc in let w : ⊥ = omega arith in absurd w
 
-time_of_lem : (h : Head) (s : List ℕ) (r : Record) (n : ℕ) → h ≡ head_of s → decoded h s ≡ Whole r n → time_allowed (time_in r) ≡ true
-time_of_lem (Good State) s r n e p = let q : record_at State s ≡ r = cc in rw (← q) (good-head s State (sym e)).time
-time_of_lem (Good Burn) s r n e p = let q : record_at Burn s ≡ r = cc in rw (← q) (good-head s Burn (sym e)).time
-time_of_lem (Good Mark) s r n e p = let q : record_at Mark s ≡ r = cc in rw (← q) (good-head s Mark (sym e)).time
-time_of_lem (Bad x) s r n e p = let z : ◌≡◌ {A = ℕ} 0 1 = cc in let w : ⊥ = omega arith in absurd w
+time_of_lem : (h : Result Kind Refusal) (s : List ℕ) (r : Record) (n : ℕ) → h ≡ head_of s → decoded h s ≡ Whole r n → time_allowed (time_in r) ≡ true
+time_of_lem (Ok State) s r n e p = let q : record_at State s ≡ r = cc in rw (← q) (good-head s State (sym e)).time
+time_of_lem (Ok Burn) s r n e p = let q : record_at Burn s ≡ r = cc in rw (← q) (good-head s Burn (sym e)).time
+time_of_lem (Ok Mark) s r n e p = let q : record_at Mark s ≡ r = cc in rw (← q) (good-head s Mark (sym e)).time
+time_of_lem (Err x) s r n e p = let z : ◌≡◌ {A = ℕ} 0 1 = cc in let w : ⊥ = omega arith in absurd w
 
 -- a record that was decoded has an allowed time
 pub whole-time : (s : List ℕ) (r : Record) (n : ℕ) → decode_of s ≡ Whole r n → time_allowed (time_in r) ≡ true

@@ -1,4 +1,6 @@
 -- The offset's record there and back, and bytes behind it: the laws of the table's records, for kind 4. Assumes nothing.
+use Rattle.std.specs.Prelude.{Err}
+use Rattle.refusal.specs.declared.Refusal.TheVariants as Refusal
 use Prim.Native.Nat.{ℕ, ◌≤◌}
 use native.Mathlib.Omega.{arith}
 use mathlib.Core.Path.{◌≡◌, refl, sym, ap, ◌∙◌}
@@ -12,7 +14,6 @@ use mir.Syntax.{w16}
 use mir.Val.{SFits, to_z}
 use mir.Facts.{to_z-of_z, Fits-of_z, of_z-to_z}
 use borrow.Author.Tests.{le-ltb, le-leb, ltb-false, lt-ltb, leb-true, leb-false}
-use Rattle.session.specs.declared.record.Head.TheVariants.{Bad}
 use Rattle.session.specs.declared.record.Decoded.TheVariants.{Offset, Refused}
 use Rattle.field.specs.Bytes.{field, bytes_le, short_of, short_bits}
 use Rattle.session.specs.Kinds.{kind_of}
@@ -35,9 +36,9 @@ module _ (z : ℤ) (rest : List ℕ) (fits : SFits w16 z) where
   offset-read-back a =
       let s = offset_bytes z ++ rest in
       ap (λ (b : Bool). cond (b && true) (offset_of true s) (decode_of s)) (le-leb 4 (length s) (omega arith))
-      ∙ ap (λ (b : Bool). cond b (Refused 11) (cond (offset_allowed (minutes_at s)) (Offset (minutes_at s)) (Refused 14))) (le-ltb (length s) 8 (omega arith))
-      ∙ ap (λ (y : ℤ). cond (offset_allowed y) (Offset y) (Refused 14)) minutes-back
-      ∙ ap (λ (b : Bool). cond b (Offset z) (Refused 14)) a
+      ∙ ap (λ (b : Bool). cond b (Refused Refusal.CutShort) (cond (offset_allowed (minutes_at s)) (Offset (minutes_at s)) (Refused Refusal.NotAllowed))) (le-ltb (length s) 8 (omega arith))
+      ∙ ap (λ (y : ℤ). cond (offset_allowed y) (Offset y) (Refused Refusal.NotAllowed)) minutes-back
+      ∙ ap (λ (b : Bool). cond b (Offset z) (Refused Refusal.NotAllowed)) a
 
 -- the bytes of a decoded offset are those it was read from
 pub offset-write-back : (first : Bool) (s : List ℕ) (z : ℤ) → Bytes s → decode_at first s ≡ Offset z → offset_bytes z ≡ take 8 s
@@ -61,23 +62,23 @@ module _ (first : Bool) (s t : List ℕ) where
   good_more h = rw (field-more s t 6 2 h, field-more s t 4 2 (omega arith)) refl
 
   by_size : (e b : Bool) → ltb (length s) 8 ≡ b
-      → (cond (not e) (Refused 12) (cond b (Refused 11) (cond (good_offset first s) (Offset (minutes_at s)) (Refused 14))) ≡ Refused 11 → ⊥)
-      → cond (not e) (Refused 12) (cond (ltb (length (s ++ t)) 8) (Refused 11) (cond (good_offset first (s ++ t)) (Offset (minutes_at (s ++ t))) (Refused 14)))
-      ≡ cond (not e) (Refused 12) (cond b (Refused 11) (cond (good_offset first s) (Offset (minutes_at s)) (Refused 14)))
+      → (cond (not e) (Refused Refusal.WrongLength) (cond b (Refused Refusal.CutShort) (cond (good_offset first s) (Offset (minutes_at s)) (Refused Refusal.NotAllowed))) ≡ Refused Refusal.CutShort → ⊥)
+      → cond (not e) (Refused Refusal.WrongLength) (cond (ltb (length (s ++ t)) 8) (Refused Refusal.CutShort) (cond (good_offset first (s ++ t)) (Offset (minutes_at (s ++ t))) (Refused Refusal.NotAllowed)))
+      ≡ cond (not e) (Refused Refusal.WrongLength) (cond b (Refused Refusal.CutShort) (cond (good_offset first s) (Offset (minutes_at s)) (Refused Refusal.NotAllowed)))
   by_size false b q z = refl
   by_size true true q z = absurd (z refl)
   by_size true false q z =
       let l = ltb-false (length s) 8 q in
-      ap (λ (x : Bool). cond x (Refused 11) (cond (good_offset first (s ++ t)) (Offset (minutes_at (s ++ t))) (Refused 14))) (longer 8 l)
-      ∙ ap (λ (x : Bool). cond x (Offset (minutes_at (s ++ t))) (Refused 14)) (good_more l)
-      ∙ ap (λ (n : ℕ). cond (good_offset first s) (Offset (short_of n)) (Refused 14)) (field-more s t 4 2 (omega arith))
+      ap (λ (x : Bool). cond x (Refused Refusal.CutShort) (cond (good_offset first (s ++ t)) (Offset (minutes_at (s ++ t))) (Refused Refusal.NotAllowed))) (longer 8 l)
+      ∙ ap (λ (x : Bool). cond x (Offset (minutes_at (s ++ t))) (Refused Refusal.NotAllowed)) (good_more l)
+      ∙ ap (λ (n : ℕ). cond (good_offset first s) (Offset (short_of n)) (Refused Refusal.NotAllowed)) (field-more s t 4 2 (omega arith))
 
-  offset-more : 4 ≤ length s → (offset_of first s ≡ Refused 11 → ⊥) → offset_of first (s ++ t) ≡ offset_of first s
+  offset-more : 4 ≤ length s → (offset_of first s ≡ Refused Refusal.CutShort → ⊥) → offset_of first (s ++ t) ≡ offset_of first s
   offset-more h z =
-      ap (λ (n : ℕ). cond (not (eqb n 8)) (Refused 12) (cond (ltb (length (s ++ t)) 8) (Refused 11) (cond (good_offset first (s ++ t)) (Offset (minutes_at (s ++ t))) (Refused 14)))) (field-more s t 0 2 (omega arith))
+      ap (λ (n : ℕ). cond (not (eqb n 8)) (Refused Refusal.WrongLength) (cond (ltb (length (s ++ t)) 8) (Refused Refusal.CutShort) (cond (good_offset first (s ++ t)) (Offset (minutes_at (s ++ t))) (Refused Refusal.NotAllowed)))) (field-more s t 0 2 (omega arith))
       ∙ by_size (eqb (field 0 2 s) 8) (ltb (length s) 8) refl z
 
-  by_kind : (b : Bool) → 4 ≤ length s → (cond b (offset_of first s) (decode_of s) ≡ Refused 11 → ⊥)
+  by_kind : (b : Bool) → 4 ≤ length s → (cond b (offset_of first s) (decode_of s) ≡ Refused Refusal.CutShort → ⊥)
       → cond b (offset_of first (s ++ t)) (decode_of (s ++ t)) ≡ cond b (offset_of first s) (decode_of s)
   by_kind true h z = offset-more h z
   by_kind false h z = stable s t z
@@ -89,13 +90,13 @@ module _ (first : Bool) (s t : List ℕ) where
       ∙ ap (λ (b : Bool). b && eqb (field 2 2 s) 4) (sym (le-leb 4 (length s) h))
 
   -- fewer than four bytes are never settled
-  cut : (b : Bool) → leb 4 (length s) ≡ b → (cond (b && eqb (field 2 2 s) 4) (offset_of first s) (decode_of s) ≡ Refused 11 → ⊥) → 4 ≤ length s
+  cut : (b : Bool) → leb 4 (length s) ≡ b → (cond (b && eqb (field 2 2 s) 4) (offset_of first s) (decode_of s) ≡ Refused Refusal.CutShort → ⊥) → 4 ≤ length s
   cut true q z = leb-true 4 (length s) q
   cut false q z =
       absurd
-      (z (ap (λ (b : Bool). decoded (cond b (Bad 11) (cond (ltb (field 0 2 s) 4) (Bad 12) (judged (kind_of (field 2 2 s)) s))) s) (lt-ltb (length s) 4 (leb-false 4 (length s) q))))
+      (z (ap (λ (b : Bool). decoded (cond b (Err Refusal.CutShort) (cond (ltb (field 0 2 s) 4) (Err Refusal.WrongLength) (judged (kind_of (field 2 2 s)) s))) s) (lt-ltb (length s) 4 (leb-false 4 (length s) q))))
 
-  pub stable-at : (decode_at first s ≡ Refused 11 → ⊥) → decode_at first (s ++ t) ≡ decode_at first s
+  pub stable-at : (decode_at first s ≡ Refused Refusal.CutShort → ⊥) → decode_at first (s ++ t) ≡ decode_at first s
   stable-at z =
       let h = cut (leb 4 (length s)) refl z in
       ap (λ (b : Bool). cond b (offset_of first (s ++ t)) (decode_of (s ++ t))) (kind-more h) ∙ by_kind (is_offset s) h z

@@ -1,5 +1,7 @@
 -- What the offset's record is known to have, and that it and the records of the table are never taken for each other.
 -- Assumes nothing.
+use Rattle.std.specs.Prelude.{Err, Ok, Result}
+use Rattle.refusal.specs.declared.Refusal.{Refusal}
 use Prim.Native.Nat.{ℕ, ◌≤◌, ◌<◌}
 use native.Mathlib.Omega.{arith}
 use mathlib.Core.Path.{◌≡◌, refl, sym, ap, ◌∙◌}
@@ -12,8 +14,6 @@ use borrow.Author.Tests.{ltb-false, eqb-true, ne_eqb}
 use Rattle.facts.proofs.Truth.{each, and-fails}
 use Rattle.session.specs.declared.record.Kind.{Kind}
 use Rattle.session.specs.declared.record.Kind.TheVariants.{State, Burn, Mark}
-use Rattle.session.specs.declared.record.Head.{Head}
-use Rattle.session.specs.declared.record.Head.TheVariants.{Good, Bad}
 use Rattle.session.specs.declared.record.Record.{Record}
 use Rattle.session.specs.declared.record.Decoded.TheVariants.{Whole, Offset, Refused}
 use Rattle.field.specs.Bytes.{field}
@@ -30,12 +30,12 @@ small State = lit< tt
 small Burn = lit< tt
 small Mark = lit< tt
 
-not-offset : (h : Head) (s : List ℕ) (r : Record) (n : ℕ) → h ≡ head_of s → decoded h s ≡ Whole r n → is_offset s ≡ false
-not-offset (Good k) s r n e p =
+not-offset : (h : Result Kind Refusal) (s : List ℕ) (r : Record) (n : ℕ) → h ≡ head_of s → decoded h s ≡ Whole r n → is_offset s ≡ false
+not-offset (Ok k) s r n e p =
     let f = kind_number_lem (field 2 2 s) k (good-kind s k (sym e)) in
     and-fails (leb 4 (length s)) (eqb (field 2 2 s) 4)
     (ne_eqb (field 2 2 s) 4 (λ (q : field 2 2 s ≡ 4). let w : ⊥ = omega (arith, small k, f, q) in w))
-not-offset (Bad x) s r n e p = let z : ◌≡◌ {A = ℕ} 0 1 = cc in let w : ⊥ = omega arith in absurd w
+not-offset (Err x) s r n e p = let z : ◌≡◌ {A = ℕ} 0 1 = cc in let w : ⊥ = omega arith in absurd w
 
 -- a record of the table is decoded wherever it stands
 pub whole-at : (first : Bool) (s : List ℕ) (r : Record) (n : ℕ) → decode_of s ≡ Whole r n → decode_at first s ≡ Whole r n
@@ -44,7 +44,7 @@ whole-at first s r n p =
 
 -- and nothing else is decoded to one
 offset-no-whole : (a b c : Bool) (z : ℤ) (r : Record) (n : ℕ)
-    → cond (not a) (Refused 12) (cond b (Refused 11) (cond c (Offset z) (Refused 14))) ≡ Whole r n → ⊥
+    → cond (not a) (Refused Refusal.WrongLength) (cond b (Refused Refusal.CutShort) (cond c (Offset z) (Refused Refusal.NotAllowed))) ≡ Whole r n → ⊥
 offset-no-whole false b c z r n p = let z : ◌≡◌ {A = ℕ} 0 1 = cc in let w : ⊥ = omega arith in w
 offset-no-whole true true c z r n p = let z : ◌≡◌ {A = ℕ} 0 1 = cc in let w : ⊥ = omega arith in w
 offset-no-whole true false true z r n p = let z : ◌≡◌ {A = ℕ} 0 1 = cc in let w : ⊥ = omega arith in w
@@ -67,16 +67,16 @@ pub record Sets (first : Bool) (s : List ℕ) (z : ℤ) : Type 0 where
   pub minutes : minutes_at s ≡ z
   pub allowed : offset_allowed z ≡ true
 
-tests : (a b c : Bool) (y z : ℤ) → cond (not a) (Refused 12) (cond b (Refused 11) (cond c (Offset y) (Refused 14))) ≡ Offset z
+tests : (a b c : Bool) (y z : ℤ) → cond (not a) (Refused Refusal.WrongLength) (cond b (Refused Refusal.CutShort) (cond c (Offset y) (Refused Refusal.NotAllowed))) ≡ Offset z
     → (a ≡ true) × (b ≡ false) × (c ≡ true) × (y ≡ z)
 tests false b c y z p = let z : ◌≡◌ {A = ℕ} 0 1 = cc in let w : ⊥ = omega arith in absurd w
 tests true true c y z p = let z : ◌≡◌ {A = ℕ} 0 1 = cc in let w : ⊥ = omega arith in absurd w
 tests true false true y z p = (refl, refl, refl, cc)
 tests true false false y z p = let z : ◌≡◌ {A = ℕ} 0 1 = cc in let w : ⊥ = omega arith in absurd w
 
-no_table : (h : Head) (s : List ℕ) (z : ℤ) → decoded h s ≡ Offset z → ⊥
-no_table (Good k) s z p = let z : ◌≡◌ {A = ℕ} 0 1 = cc in let w : ⊥ = omega arith in w
-no_table (Bad n) s z p = let z : ◌≡◌ {A = ℕ} 0 1 = cc in let w : ⊥ = omega arith in w
+no_table : (h : Result Kind Refusal) (s : List ℕ) (z : ℤ) → decoded h s ≡ Offset z → ⊥
+no_table (Ok k) s z p = let z : ◌≡◌ {A = ℕ} 0 1 = cc in let w : ⊥ = omega arith in w
+no_table (Err n) s z p = let z : ◌≡◌ {A = ℕ} 0 1 = cc in let w : ⊥ = omega arith in w
 
 set-by : (b : Bool) (first : Bool) (s : List ℕ) (z : ℤ) → is_offset s ≡ b → cond b (offset_of first s) (decode_of s) ≡ Offset z → Sets first s z
 set-by true first s z e p =

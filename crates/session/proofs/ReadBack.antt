@@ -1,4 +1,6 @@
 -- Decoding the bytes of an allowed record gives the record, whatever bytes stand behind them: once over the kind. Assumes nothing.
+use Rattle.std.specs.Prelude.{Err, Ok, Option, Result}
+use Rattle.refusal.specs.declared.Refusal.{Refusal}
 use Prim.Native.Nat.{ℕ, zero, suc, ◌+◌, ◌*◌, ◌≤◌, ◌<◌}
 use native.Mathlib.Nat.{zero-add}
 use native.Mathlib.Numerals.{add-one}
@@ -19,9 +21,6 @@ use borrow.Author.Tests.{le-ltb, eq-eqb}
 use Rattle.real.specs.F64.{f0}
 use Rattle.session.specs.declared.record.Kind.{Kind}
 use Rattle.session.specs.declared.record.Kind.TheVariants.{State, Burn, Mark}
-use Rattle.session.specs.declared.record.Found.{Found}
-use Rattle.session.specs.declared.record.Head.{Head}
-use Rattle.session.specs.declared.record.Head.TheVariants.{Good, Bad}
 use Rattle.session.specs.declared.record.Record.{Record}
 use Rattle.session.specs.declared.record.Record.TheVariants as R
 use Rattle.session.specs.declared.record.Decoded.TheVariants.{Whole}
@@ -131,18 +130,18 @@ module _ (k : Kind) (v b : ℕ) (t : ℤ) (xs : List Float) (rest : List ℕ)
       ∙ ap (λ (x : ℤ). record_with k v b x (number_at s)) time-back
       ∙ with-same k v b t (number_at s) (λ (i : ℕ). get_or xs i f0) (λ i h. numbers-at i (omega arith))
 
-  head-back : allowed k v b t xs ≡ true → head_of s ≡ Good k
+  head-back : allowed k v b t xs ≡ true → head_of s ≡ Ok k
   head-back a =
       let four : 4 ≤ record_length k = omega (arith, length-law k) in
-      ap (λ (q : Bool). cond q (Bad 11) (cond (ltb (field 0 2 s) 4) (Bad 12) (judged (kind_of (field 2 2 s)) s))) (le-ltb (length s) 4 (omega (arith, size_back)))
-      ∙ ap (λ (q : Bool). cond q (Bad 12) (judged (kind_of (field 2 2 s)) s)) (le-ltb (field 0 2 s) 4 (omega (arith, length_back)))
-      ∙ ap (λ (f : Found). judged f s) (ap kind_of number-back-2 ∙ kind-back k)
-      ∙ ap (λ (q : Bool). cond (not q) (Bad 12) (cond (ltb (length s) (record_length k)) (Bad 11) (cond (allowed_at k s) (Good k) (Bad 14)))) (eq-eqb _ _ length_back)
-      ∙ ap (λ (q : Bool). cond q (Bad 11) (cond (allowed_at k s) (Good k) (Bad 14))) (le-ltb (length s) (record_length k) size_back)
-      ∙ ap (λ (q : Bool). cond q (Good k) (Bad 14)) (allowed-back ∙ a)
+      ap (λ (q : Bool). cond q (Err Refusal.CutShort) (cond (ltb (field 0 2 s) 4) (Err Refusal.WrongLength) (judged (kind_of (field 2 2 s)) s))) (le-ltb (length s) 4 (omega (arith, size_back)))
+      ∙ ap (λ (q : Bool). cond q (Err Refusal.WrongLength) (judged (kind_of (field 2 2 s)) s)) (le-ltb (field 0 2 s) 4 (omega (arith, length_back)))
+      ∙ ap (λ (f : Option Kind). judged f s) (ap kind_of number-back-2 ∙ kind-back k)
+      ∙ ap (λ (q : Bool). cond (not q) (Err Refusal.WrongLength) (cond (ltb (length s) (record_length k)) (Err Refusal.CutShort) (cond (allowed_at k s) (Ok k) (Err Refusal.NotAllowed)))) (eq-eqb _ _ length_back)
+      ∙ ap (λ (q : Bool). cond q (Err Refusal.CutShort) (cond (allowed_at k s) (Ok k) (Err Refusal.NotAllowed))) (le-ltb (length s) (record_length k) size_back)
+      ∙ ap (λ (q : Bool). cond q (Ok k) (Err Refusal.NotAllowed)) (allowed-back ∙ a)
 
   fields_back : allowed k v b t xs ≡ true → decode_of s ≡ Whole (record_with k v b t (λ (i : ℕ). get_or xs i f0)) (record_length k)
-  fields_back a = ap (λ (h : Head). decoded h s) (head-back a) ∙ ap (λ (r : Record). Whole r (record_length k)) record-back
+  fields_back a = ap (λ (h : Result Kind Refusal). decoded h s) (head-back a) ∙ ap (λ (r : Record). Whole r (record_length k)) record-back
 
 -- the bytes of a record, and any bytes behind them
 pub read_back : (r : Record) (rest : List ℕ) → Held r → allowed_in r ≡ true

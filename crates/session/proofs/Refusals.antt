@@ -1,5 +1,8 @@
 -- A refusal of the reader is 11, 12, 13 or 14, at the place that was handed in; only a session over 65,536 bytes is
 -- refused at the start wherever the reader stands. Assumes nothing.
+use Rattle.std.specs.Prelude.{Err, None, Ok, Option, Result, Some}
+use Rattle.refusal.specs.declared.Refusal.{Refusal}
+use Rattle.refusal.specs.Refusals.{number_of}
 use Prim.Native.Nat.{ℕ, ◌≤◌}
 use native.Mathlib.Omega.{arith}
 use mathlib.Core.Path.{◌≡◌, refl, sym, ap, ◌∙◌}
@@ -10,10 +13,6 @@ use lib.Dec.{ltb, eqb, lit≤}
 use lib.IntN.{ℤ}
 use borrow.Author.Tests.{le-ltb}
 use Rattle.session.specs.declared.record.Kind.{Kind}
-use Rattle.session.specs.declared.record.Found.{Found}
-use Rattle.session.specs.declared.record.Found.TheVariants.{Known, Unknown}
-use Rattle.session.specs.declared.record.Head.{Head}
-use Rattle.session.specs.declared.record.Head.TheVariants.{Good, Bad}
 use Rattle.session.specs.declared.record.Decoded.{Decoded}
 use Rattle.session.specs.declared.record.Decoded.TheVariants as D
 use Rattle.session.specs.declared.Place.{Place}
@@ -26,24 +25,24 @@ use Rattle.session.specs.Limits.{offset_allowed}
 use Rattle.session.specs.Offset.{is_offset, minutes_at, good_offset, offset_of, decode_at}
 use Rattle.session.specs.Read.{start, placed, read_at}
 
-abbrev pub Given : ℕ → Type 0
-Given n = (11 ≤ n) × (n ≤ 14)
+abbrev pub Given : Refusal → Type 0
+Given n = (11 ≤ number_of n) × (number_of n ≤ 14)
 
-abbrev GivenBy : Head → Type 0
-GivenBy (Good k) = Unit {0}
-GivenBy (Bad n) = Given n
+abbrev GivenBy : Result Kind Refusal → Type 0
+GivenBy (Ok k) = Unit {0}
+GivenBy (Err n) = Given n
 
-tests-given : (e l a : Bool) (k : Kind) → GivenBy (cond (not e) (Bad 12) (cond l (Bad 11) (cond a (Good k) (Bad 14))))
+tests-given : (e l a : Bool) (k : Kind) → GivenBy (cond (not e) (Err Refusal.WrongLength) (cond l (Err Refusal.CutShort) (cond a (Ok k) (Err Refusal.NotAllowed))))
 tests-given false l a k = (lit≤ tt, lit≤ tt)
 tests-given true true a k = (lit≤ tt, lit≤ tt)
 tests-given true false true k = tt
 tests-given true false false k = (lit≤ tt, lit≤ tt)
 
-judged-given : (f : Found) (s : List ℕ) → GivenBy (judged f s)
-judged-given Unknown s = (lit≤ tt, lit≤ tt)
-judged-given (Known k) s = tests-given (eqb (field 0 2 s) (record_length k)) (ltb (length s) (record_length k)) (allowed_at k s) k
+judged-given : (f : Option Kind) (s : List ℕ) → GivenBy (judged f s)
+judged-given None s = (lit≤ tt, lit≤ tt)
+judged-given (Some k) s = tests-given (eqb (field 0 2 s) (record_length k)) (ltb (length s) (record_length k)) (allowed_at k s) k
 
-front-given : (a b : Bool) (h : Head) → GivenBy h → GivenBy (cond a (Bad 11) (cond b (Bad 12) h))
+front-given : (a b : Bool) (h : Result Kind Refusal) → GivenBy h → GivenBy (cond a (Err Refusal.CutShort) (cond b (Err Refusal.WrongLength) h))
 front-given true b h g = (lit≤ tt, lit≤ tt)
 front-given false true h g = (lit≤ tt, lit≤ tt)
 front-given false false h g = g
@@ -56,11 +55,11 @@ GivenIn (D.Whole r n) = Unit {0}
 GivenIn (D.Offset z) = Unit {0}
 GivenIn (D.Refused n) = Given n
 
-decoded-given : (h : Head) (s : List ℕ) → GivenBy h → GivenIn (decoded h s)
-decoded-given (Good k) s g = tt
-decoded-given (Bad n) s g = g
+decoded-given : (h : Result Kind Refusal) (s : List ℕ) → GivenBy h → GivenIn (decoded h s)
+decoded-given (Ok k) s g = tt
+decoded-given (Err n) s g = g
 
-offset-given : (a b c : Bool) (z : ℤ) → GivenIn (cond (not a) (D.Refused 12) (cond b (D.Refused 11) (cond c (D.Offset z) (D.Refused 14))))
+offset-given : (a b c : Bool) (z : ℤ) → GivenIn (cond (not a) (D.Refused Refusal.WrongLength) (cond b (D.Refused Refusal.CutShort) (cond c (D.Offset z) (D.Refused Refusal.NotAllowed))))
 offset-given false b c z = (lit≤ tt, lit≤ tt)
 offset-given true true c z = (lit≤ tt, lit≤ tt)
 offset-given true false true z = tt
@@ -70,12 +69,12 @@ either-given : (b first : Bool) (s : List ℕ) → GivenIn (cond b (offset_of fi
 either-given true first s = offset-given (eqb (field 0 2 s) 8) (ltb (length s) 8) (good_offset first s) (minutes_at s)
 either-given false first s = decoded-given (head_of s) s (head-given s)
 
-told_in : (d : Decoded) (n : ℕ) → d ≡ D.Refused n → GivenIn d → Given n
+told_in : (d : Decoded) (n : Refusal) → d ≡ D.Refused n → GivenIn d → Given n
 told_in (D.Whole r m) n e g = let z : ◌≡◌ {A = ℕ} 0 1 = cc in let w : ⊥ = omega arith in absurd w
 told_in (D.Offset z) n e g = let z : ◌≡◌ {A = ℕ} 0 1 = cc in let w : ⊥ = omega arith in absurd w
 told_in (D.Refused m) n e g = let y : m ≡ n = cc in rw (← y) g
 
-pub decode-number : (first : Bool) (s : List ℕ) (n : ℕ) → decode_at first s ≡ D.Refused n → Given n
+pub decode-number : (first : Bool) (s : List ℕ) (n : Refusal) → decode_at first s ≡ D.Refused n → Given n
 decode-number first s n e = told_in (decode_at first s) n e (either-given (is_offset s) first s)
 
 -- the number and the place of what was read at a place
@@ -91,7 +90,7 @@ placed-given (D.Offset z) p g = tt
 placed-given (D.Refused n) p g = (g, refl)
 
 read-given : (a b c d : Bool) (p : Place) (x : Reading) → GivenAt false p x
-    → GivenAt a p (cond a (Refused 12 start) (cond (not b) (Refused 14 p) (cond c (Refused 11 p) (cond d End x))))
+    → GivenAt a p (cond a (Refused Refusal.WrongLength start) (cond (not b) (Refused Refusal.NotAllowed p) (cond c (Refused Refusal.CutShort p) (cond d End x))))
 read-given true b c d p x g = ((lit≤ tt, lit≤ tt), refl)
 read-given false false c d p x g = ((lit≤ tt, lit≤ tt), refl)
 read-given false true true d p x g = ((lit≤ tt, lit≤ tt), refl)
@@ -105,7 +104,7 @@ given s p =
     read-given (ltb 65536 (length s)) (offset_allowed p.offset) (ltb (length s) p.at) (eqb p.at (length s)) p (placed (decode_at f l) p)
     (placed-given (decode_at f l) p (either-given (is_offset l) f l))
 
-told : (a : Reading) (long : Bool) (p : Place) (n : ℕ) (q : Place) → a ≡ Refused n q → GivenAt long p a → Given n × (q ≡ cond long start p)
+told : (a : Reading) (long : Bool) (p : Place) (n : Refusal) (q : Place) → a ≡ Refused n q → GivenAt long p a → Given n × (q ≡ cond long start p)
 told (Record r x) long p n q e g = let z : ◌≡◌ {A = ℕ} 0 1 = cc in let w : ⊥ = omega arith in absurd w
 told (Offset x) long p n q e g = let z : ◌≡◌ {A = ℕ} 0 1 = cc in let w : ⊥ = omega arith in absurd w
 told End long p n q e g = let z : ◌≡◌ {A = ℕ} 0 1 = cc in let w : ⊥ = omega arith in absurd w
@@ -114,10 +113,10 @@ told (Refused m x) long p n q e g =
     let z : x ≡ q = cc in
     (rw (← y) g.0, sym z ∙ g.1)
 
-pub refusal-number : (s : List ℕ) (p : Place) (n : ℕ) (q : Place) → read_at s p ≡ Refused n q → Given n
+pub refusal-number : (s : List ℕ) (p : Place) (n : Refusal) (q : Place) → read_at s p ≡ Refused n q → Given n
 refusal-number s p n q e = (told (read_at s p) (ltb 65536 (length s)) p n q e (given s p)).0
 
-pub refusal-place : (s : List ℕ) (p : Place) (n : ℕ) (q : Place) → length s ≤ 65536 → read_at s p ≡ Refused n q → q ≡ p
+pub refusal-place : (s : List ℕ) (p : Place) (n : Refusal) (q : Place) → length s ≤ 65536 → read_at s p ≡ Refused n q → q ≡ p
 refusal-place s p n q h e =
     (told (read_at s p) (ltb 65536 (length s)) p n q e (given s p)).1
     ∙ ap (λ (b : Bool). cond b start p) (le-ltb 65536 (length s) h)

@@ -1,4 +1,6 @@
 -- More bytes behind a record that is settled change nothing: what a reader of parts rests on. Assumes nothing.
+use Rattle.std.specs.Prelude.{Err, None, Ok, Option, Result, Some}
+use Rattle.refusal.specs.declared.Refusal.{Refusal}
 use Prim.Native.Nat.{ℕ, zero, suc, ◌+◌, ◌*◌, ◌≤◌, ◌<◌}
 use native.Mathlib.Omega.{arith}
 use mathlib.Core.Path.{◌≡◌, refl, sym, ap, ◌∙◌}
@@ -11,10 +13,6 @@ use lib.Ieee.{Float, of_bits, binary64}
 use borrow.Author.Tests.{le-ltb, ltb-false}
 use Rattle.session.specs.declared.record.Kind.{Kind}
 use Rattle.session.specs.declared.record.Kind.TheVariants.{State, Burn, Mark}
-use Rattle.session.specs.declared.record.Found.{Found}
-use Rattle.session.specs.declared.record.Found.TheVariants.{Known, Unknown}
-use Rattle.session.specs.declared.record.Head.{Head}
-use Rattle.session.specs.declared.record.Head.TheVariants.{Good, Bad}
 use Rattle.session.specs.declared.record.Record.{Record}
 use Rattle.session.specs.declared.record.Decoded.TheVariants.{Whole, Refused}
 use Rattle.field.specs.Bytes.{le, field}
@@ -63,45 +61,45 @@ module _ (s t : List ℕ) where
 
   -- by the test of the length, where the record is not cut short
   by_length : (k : Kind) (e b : Bool) → ltb (length s) (record_length k) ≡ b
-      → (cond (not e) (Bad 12) (cond b (Bad 11) (cond (allowed_at k s) (Good k) (Bad 14))) ≡ Bad 11 → ⊥)
-      → cond (not e) (Bad 12) (cond (ltb (length (s ++ t)) (record_length k)) (Bad 11) (cond (allowed_at k (s ++ t)) (Good k) (Bad 14)))
-      ≡ cond (not e) (Bad 12) (cond b (Bad 11) (cond (allowed_at k s) (Good k) (Bad 14)))
+      → (cond (not e) (Err Refusal.WrongLength) (cond b (Err Refusal.CutShort) (cond (allowed_at k s) (Ok k) (Err Refusal.NotAllowed))) ≡ Err Refusal.CutShort → ⊥)
+      → cond (not e) (Err Refusal.WrongLength) (cond (ltb (length (s ++ t)) (record_length k)) (Err Refusal.CutShort) (cond (allowed_at k (s ++ t)) (Ok k) (Err Refusal.NotAllowed)))
+      ≡ cond (not e) (Err Refusal.WrongLength) (cond b (Err Refusal.CutShort) (cond (allowed_at k s) (Ok k) (Err Refusal.NotAllowed)))
   by_length k false b q z = refl
   by_length k true true q z = absurd (z refl)
   by_length k true false q z =
       let l = ltb-false (length s) (record_length k) q in
-      ap (λ (x : Bool). cond x (Bad 11) (cond (allowed_at k (s ++ t)) (Good k) (Bad 14))) (longer (record_length k) l)
-      ∙ ap (λ (x : Bool). cond x (Good k) (Bad 14)) (allowed-more k l)
+      ap (λ (x : Bool). cond x (Err Refusal.CutShort) (cond (allowed_at k (s ++ t)) (Ok k) (Err Refusal.NotAllowed))) (longer (record_length k) l)
+      ∙ ap (λ (x : Bool). cond x (Ok k) (Err Refusal.NotAllowed)) (allowed-more k l)
 
-  judged-more : (f : Found) → 2 ≤ length s → (judged f s ≡ Bad 11 → ⊥) → judged f (s ++ t) ≡ judged f s
-  judged-more Unknown h z = refl
-  judged-more (Known k) h z =
-      ap (λ (n : ℕ). cond (not (eqb n (record_length k))) (Bad 12) (cond (ltb (length (s ++ t)) (record_length k)) (Bad 11) (cond (allowed_at k (s ++ t)) (Good k) (Bad 14)))) (field-more 0 2 h)
+  judged-more : (f : Option Kind) → 2 ≤ length s → (judged f s ≡ Err Refusal.CutShort → ⊥) → judged f (s ++ t) ≡ judged f s
+  judged-more None h z = refl
+  judged-more (Some k) h z =
+      ap (λ (n : ℕ). cond (not (eqb n (record_length k))) (Err Refusal.WrongLength) (cond (ltb (length (s ++ t)) (record_length k)) (Err Refusal.CutShort) (cond (allowed_at k (s ++ t)) (Ok k) (Err Refusal.NotAllowed)))) (field-more 0 2 h)
       ∙ by_length k (eqb (field 0 2 s) (record_length k)) (ltb (length s) (record_length k)) refl z
 
-  by_kind : (b : Bool) → 4 ≤ length s → (cond b (Bad 12) (judged (kind_of (field 2 2 s)) s) ≡ Bad 11 → ⊥)
-      → cond b (Bad 12) (judged (kind_of (field 2 2 (s ++ t))) (s ++ t)) ≡ cond b (Bad 12) (judged (kind_of (field 2 2 s)) s)
+  by_kind : (b : Bool) → 4 ≤ length s → (cond b (Err Refusal.WrongLength) (judged (kind_of (field 2 2 s)) s) ≡ Err Refusal.CutShort → ⊥)
+      → cond b (Err Refusal.WrongLength) (judged (kind_of (field 2 2 (s ++ t))) (s ++ t)) ≡ cond b (Err Refusal.WrongLength) (judged (kind_of (field 2 2 s)) s)
   by_kind true h z = refl
   by_kind false h z =
       ap (λ (n : ℕ). judged (kind_of n) (s ++ t)) (field-more 2 2 h) ∙ judged-more (kind_of (field 2 2 s)) (omega arith) z
 
-  by-four : (b : Bool) → ltb (length s) 4 ≡ b → (cond b (Bad 11) (cond (ltb (field 0 2 s) 4) (Bad 12) (judged (kind_of (field 2 2 s)) s)) ≡ Bad 11 → ⊥)
-      → head_of (s ++ t) ≡ cond b (Bad 11) (cond (ltb (field 0 2 s) 4) (Bad 12) (judged (kind_of (field 2 2 s)) s))
+  by-four : (b : Bool) → ltb (length s) 4 ≡ b → (cond b (Err Refusal.CutShort) (cond (ltb (field 0 2 s) 4) (Err Refusal.WrongLength) (judged (kind_of (field 2 2 s)) s)) ≡ Err Refusal.CutShort → ⊥)
+      → head_of (s ++ t) ≡ cond b (Err Refusal.CutShort) (cond (ltb (field 0 2 s) 4) (Err Refusal.WrongLength) (judged (kind_of (field 2 2 s)) s))
   by-four true q z = absurd (z refl)
   by-four false q z =
       let l = ltb-false (length s) 4 q in
-      ap (λ (x : Bool). cond x (Bad 11) (cond (ltb (field 0 2 (s ++ t)) 4) (Bad 12) (judged (kind_of (field 2 2 (s ++ t))) (s ++ t)))) (longer 4 l)
-      ∙ ap (λ (n : ℕ). cond (ltb n 4) (Bad 12) (judged (kind_of (field 2 2 (s ++ t))) (s ++ t))) (field-more 0 2 (omega arith))
+      ap (λ (x : Bool). cond x (Err Refusal.CutShort) (cond (ltb (field 0 2 (s ++ t)) 4) (Err Refusal.WrongLength) (judged (kind_of (field 2 2 (s ++ t))) (s ++ t)))) (longer 4 l)
+      ∙ ap (λ (n : ℕ). cond (ltb n 4) (Err Refusal.WrongLength) (judged (kind_of (field 2 2 (s ++ t))) (s ++ t))) (field-more 0 2 (omega arith))
       ∙ by_kind (ltb (field 0 2 s) 4) l z
 
-  head_more : (head_of s ≡ Bad 11 → ⊥) → head_of (s ++ t) ≡ head_of s
+  head_more : (head_of s ≡ Err Refusal.CutShort → ⊥) → head_of (s ++ t) ≡ head_of s
   head_more z = by-four (ltb (length s) 4) refl z
 
-  by-head : (h : Head) → h ≡ head_of s → decoded h (s ++ t) ≡ decoded h s
-  by-head (Good k) e = ap (λ (r : Record). Whole r (record_length k)) (record-more k (good-head s k (sym e)).size)
-  by-head (Bad x) e = refl
+  by-head : (h : Result Kind Refusal) → h ≡ head_of s → decoded h (s ++ t) ≡ decoded h s
+  by-head (Ok k) e = ap (λ (r : Record). Whole r (record_length k)) (record-more k (good-head s k (sym e)).size)
+  by-head (Err x) e = refl
 
-  pub stable : (decode_of s ≡ Refused 11 → ⊥) → decode_of (s ++ t) ≡ decode_of s
+  pub stable : (decode_of s ≡ Refused Refusal.CutShort → ⊥) → decode_of (s ++ t) ≡ decode_of s
   stable z =
-      ap (λ (h : Head). decoded h (s ++ t)) (head_more (λ e. z (ap (λ (h : Head). decoded h s) e)))
+      ap (λ (h : Result Kind Refusal). decoded h (s ++ t)) (head_more (λ e. z (ap (λ (h : Result Kind Refusal). decoded h s) e)))
       ∙ by-head (head_of s) refl

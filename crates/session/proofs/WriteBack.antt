@@ -1,4 +1,6 @@
 -- The bytes of a decoded record are those it was read from: once over the kind. Assumes nothing.
+use Rattle.std.specs.Prelude.{Err, Ok, Result}
+use Rattle.refusal.specs.declared.Refusal.{Refusal}
 use Prim.Native.Nat.{ℕ, zero, suc, ◌+◌, ◌*◌, ◌^◌, ◌≤◌, ◌<◌}
 use native.Mathlib.Omega.{arith}
 use mathlib.Core.Path.{◌≡◌, refl, sym, ap, ◌∙◌}
@@ -15,8 +17,6 @@ use Rattle.real.proofs.Patterns.{finite-not-nan}
 use Rattle.real.specs.F64.{finite}
 use Rattle.session.specs.declared.record.Kind.{Kind}
 use Rattle.session.specs.declared.record.Kind.TheVariants.{State, Burn, Mark}
-use Rattle.session.specs.declared.record.Head.{Head}
-use Rattle.session.specs.declared.record.Head.TheVariants.{Good, Bad}
 use Rattle.session.specs.declared.record.Record.{Record}
 use Rattle.session.specs.declared.record.Decoded.TheVariants.{Whole}
 use Rattle.field.specs.Bytes.{le, field, bytes_le, bits_of}
@@ -83,7 +83,7 @@ module _ (s : List ℕ) (bytes : Bytes s) where
   own-bytes Burn h = let z : 0 ≡ byte_at s = omega arith in ap (λ (b : ℕ). header_bytes Burn (vehicle_at s) b (time_at s) ++ number_bytes (numbers_from 0 3 s)) z
   own-bytes Mark h = let z : 0 ≡ byte_at s = omega arith in ap (λ (b : ℕ). header_bytes Mark (vehicle_at s) b (time_at s) ++ number_bytes (numbers_from 0 2 s)) z
 
-  kind-bytes : (k : Kind) → head_of s ≡ Good k → bytes_of (record_at k s) ≡ take (record_length k) s
+  kind-bytes : (k : Kind) → head_of s ≡ Ok k → bytes_of (record_at k s) ≡ take (record_length k) s
   kind-bytes k e =
       let h = good-head s k e in
       let l = length-law k in
@@ -93,12 +93,12 @@ module _ (s : List ℕ) (bytes : Bytes s) where
       ∙ sym (take-add 14 (8 * count_of k) s)
       ∙ ap (λ (n : ℕ). take n s) (sym l)
 
-  head_bytes : (h : Head) (r : Record) (n : ℕ) → h ≡ head_of s → decoded h s ≡ Whole r n → bytes_of r ≡ take n s
-  head_bytes (Good k) r n e p =
+  head_bytes : (h : Result Kind Refusal) (r : Record) (n : ℕ) → h ≡ head_of s → decoded h s ≡ Whole r n → bytes_of r ≡ take n s
+  head_bytes (Ok k) r n e p =
       let x : record_at k s ≡ r = cc in
       let y : record_length k ≡ n = cc in
       ap bytes_of (sym x) ∙ kind-bytes k (sym e) ∙ ap (λ (m : ℕ). take m s) y
-  head_bytes (Bad x) r n e p = let z : ◌≡◌ {A = ℕ} 0 1 = cc in let w : ⊥ = omega arith in absurd w
+  head_bytes (Err x) r n e p = let z : ◌≡◌ {A = ℕ} 0 1 = cc in let w : ⊥ = omega arith in absurd w
 
   pub write-back : (r : Record) (n : ℕ) → decode_of s ≡ Whole r n → bytes_of r ≡ take n s
   write-back r n p = head_bytes (head_of s) r n refl p

@@ -1,14 +1,11 @@
 -- What one record at the front of some bytes is, and which records are allowed. Assumes nothing: these are definitions.
-use Rattle.std.specs.Prelude.{ℕ, List, [], ◌∷◌, Bool, cond, not, ◌&&◌, length, T, ltb, leb, eqb, ℤ, Float}
+use Rattle.refusal.specs.declared.Refusal.{Refusal}
+use Rattle.std.specs.Prelude.{ℕ, List, [], ◌∷◌, Bool, cond, not, ◌&&◌, length, T, ltb, leb, eqb, ℤ, Float, Err, None, Ok, Option, Result, Some}
 use Rattle.std.specs.Float.{binary64}
 use Rattle.std.specs.Float.Ieee.{fits}
 use Rattle.std.specs.Int.{w64}
 use Rattle.std.proofs.Common.{SFits}
 use Rattle.session.specs.declared.record.Kind.{Kind}
-use Rattle.session.specs.declared.record.Found.{Found}
-use Rattle.session.specs.declared.record.Found.TheVariants.{Known, Unknown}
-use Rattle.session.specs.declared.record.Head.{Head}
-use Rattle.session.specs.declared.record.Head.TheVariants.{Good, Bad}
 use Rattle.session.specs.declared.record.Record.{Record}
 use Rattle.session.specs.declared.record.Decoded.{Decoded}
 use Rattle.session.specs.declared.record.Decoded.TheVariants.{Whole, Refused}
@@ -28,18 +25,18 @@ abbrev pub allowed_in : Record → Bool
 allowed_in r = allowed (kind_in r) (vehicle_in r) (byte_in r) (time_in r) (numbers_in r)
 
 -- the tests in their order: from the length on, and all of them
-abbrev pub judged : Found → List ℕ → Head
-judged Unknown s = Bad 13
-judged (Known k) s =
-    cond (not (eqb (field 0 2 s) (record_length k))) (Bad 12)
-    (cond (ltb (length s) (record_length k)) (Bad 11) (cond (allowed_at k s) (Good k) (Bad 14)))
+abbrev pub judged : Option Kind → List ℕ → Result Kind Refusal
+judged None s = Err Refusal.UnknownKind
+judged (Some k) s =
+    cond (not (eqb (field 0 2 s) (record_length k))) (Err Refusal.WrongLength)
+    (cond (ltb (length s) (record_length k)) (Err Refusal.CutShort) (cond (allowed_at k s) (Ok k) (Err Refusal.NotAllowed)))
 
-abbrev pub head_of : List ℕ → Head
-head_of s = cond (ltb (length s) 4) (Bad 11) (cond (ltb (field 0 2 s) 4) (Bad 12) (judged (kind_of (field 2 2 s)) s))
+abbrev pub head_of : List ℕ → Result Kind Refusal
+head_of s = cond (ltb (length s) 4) (Err Refusal.CutShort) (cond (ltb (field 0 2 s) 4) (Err Refusal.WrongLength) (judged (kind_of (field 2 2 s)) s))
 
-abbrev pub decoded : Head → List ℕ → Decoded
-decoded (Good k) s = Whole (record_at k s) (record_length k)
-decoded (Bad n) s = Refused n
+abbrev pub decoded : Result Kind Refusal → List ℕ → Decoded
+decoded (Ok k) s = Whole (record_at k s) (record_length k)
+decoded (Err n) s = Refused n
 
 abbrev pub decode_of : List ℕ → Decoded
 decode_of s = decoded (head_of s) s

@@ -3,6 +3,7 @@
 --
 --   0 length (2)   2 kind (2)   4 offset in minutes (2)   6 zero (2)
 use Rattle.std.specs.Prelude.{ℕ, List, ◌++◌, Bool, cond, not, ◌&&◌, length, ltb, leb, eqb, ℤ}
+use Rattle.refusal.specs.declared.Refusal.TheVariants as Refusal
 use Rattle.session.specs.declared.record.Decoded.{Decoded}
 use Rattle.session.specs.declared.record.Decoded.TheVariants.{Offset, Refused}
 use Rattle.field.specs.Bytes.{field, bytes_le, short_of, short_bits}
@@ -23,8 +24,8 @@ good_offset first s = first && eqb (field 6 2 s) 0 && offset_allowed (minutes_at
 -- its tests in their order
 abbrev pub offset_of : Bool → List ℕ → Decoded
 offset_of first s =
-    cond (not (eqb (field 0 2 s) 8)) (Refused 12)
-    (cond (ltb (length s) 8) (Refused 11) (cond (good_offset first s) (Offset (minutes_at s)) (Refused 14)))
+    cond (not (eqb (field 0 2 s) 8)) (Refused Refusal.WrongLength)
+    (cond (ltb (length s) 8) (Refused Refusal.CutShort) (cond (good_offset first s) (Offset (minutes_at s)) (Refused Refusal.NotAllowed)))
 
 -- the record at the front of s, which is the first of its session or not
 abbrev pub decode_at : Bool → List ℕ → Decoded

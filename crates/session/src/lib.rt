@@ -12,6 +12,7 @@ ghost use Rattle.session.specs.Read.{read_at};
 pub use limit::{offset_allowed, time_allowed};
 pub use offset::decode_at;
 pub use record::{BurnRecord, Decoded, Kind, MarkRecord, Record, StateRecord};
+use refusal::Refusal;
 
 // Where the reader stands, and the local offset there, in minutes.
 #[derive(Clone, Copy)]
@@ -26,7 +27,7 @@ pub enum Reading {
     Record(Record, Place),
     Offset(Place),
     End,
-    Refused(u32, Place),
+    Refused(Refusal, Place),
 }
 
 pub fn read(place: Place, s: &[u8]) -> Reading
@@ -35,13 +36,13 @@ pub fn read(place: Place, s: &[u8]) -> Reading
     let at = place.at;
     let offset = place.offset;
     if s.len() > 65536 {
-        return Reading::Refused(12, Place { at: 0, offset: 0 });
+        return Reading::Refused(Refusal::WrongLength, Place { at: 0, offset: 0 });
     }
     if !offset_allowed(offset) {
-        return Reading::Refused(14, place);
+        return Reading::Refused(Refusal::NotAllowed, place);
     }
     if at > s.len() {
-        return Reading::Refused(11, place);
+        return Reading::Refused(Refusal::CutShort, place);
     }
     if at == s.len() {
         return Reading::End;
@@ -49,6 +50,6 @@ pub fn read(place: Place, s: &[u8]) -> Reading
     match decode_at(at == 0, &s[at..]) {
         Decoded::Whole(r, n) => Reading::Record(r, Place { at: at + n, offset }),
         Decoded::Offset(z) => Reading::Offset(Place { at: 8, offset: z }),
-        Decoded::Refused(no) => Reading::Refused(no, place),
+        Decoded::Refused(refusal) => Reading::Refused(refusal, place),
     }
 }

@@ -6,18 +6,12 @@ ghost use Rattle.session.specs.Limits.{time_allowed, offset_allowed};
 pub fn time_allowed(t: i64) -> bool
     ensures { result ≡ time_allowed t }
 {
-    if t < -9007199254740992 {
-        return false;
-    }
-    t <= 9007199254740992
+    -9007199254740992 <= t && t <= 9007199254740992
 }
 
 // Whether an offset is at most 14 hours, in minutes.
 pub fn offset_allowed(z: i16) -> bool
     ensures { result ≡ offset_allowed z }
 {
-    if z < -840 {
-        return false;
-    }
-    z <= 840
+    -840 <= z && z <= 840
 }

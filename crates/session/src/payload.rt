@@ -17,12 +17,10 @@ pub fn are_finite(s: &[u8], n: usize) -> bool
     requires { 14 + 8 * n ≤ length s.now }
     ensures { result ≡ all_finite (numbers_from 0 n s.now) }
 {
-    let mut i = 0;
-    while i < n {
+    for i in 0..n {
         if !is_finite(number(s, i)) {
             return false;
         }
-        i += 1;
     }
     true
 }

@@ -8,6 +8,7 @@ ghost use Rattle.session.specs.Decode.{allowed_at, judged, head_of, decode_of};
 use crate::limit::time_allowed;
 use crate::payload::{are_finite, number};
 use field::{read, signed};
+use refusal::Refusal;
 use vector::{State, Vector};
 
 #[derive(Clone, Copy)]
@@ -45,7 +46,7 @@ pub enum Record {
 pub enum Decoded {
     Whole(Record, usize),
     Offset(i16),
-    Refused(u32),
+    Refused(Refusal),
 }
 
 #[derive(Clone, Copy)]
@@ -53,19 +54,6 @@ pub enum Kind {
     State,
     Burn,
     Mark,
-}
-
-#[derive(Clone, Copy)]
-pub enum Found {
-    Known(Kind),
-    Unknown,
-}
-
-// What the tests of a record find.
-#[derive(Clone, Copy)]
-pub enum Head {
-    Good(Kind),
-    Bad(u32),
 }
 
 // How a kind's records are built: their length, how many numbers they have, and the greatest value of the byte
@@ -77,19 +65,15 @@ pub struct Shape {
     pub top: u8,
 }
 
-fn kind_of(n: u64) -> Found
+fn kind_of(n: u64) -> Option<Kind>
     ensures { result ≡ kind_of n }
 {
-    if n == 1 {
-        return Found::Known(Kind::State);
+    match n {
+        1 => Some(Kind::State),
+        2 => Some(Kind::Burn),
+        3 => Some(Kind::Mark),
+        _ => None,
     }
-    if n == 2 {
-        return Found::Known(Kind::Burn);
-    }
-    if n == 3 {
-        return Found::Known(Kind::Mark);
-    }
-    Found::Unknown
 }
 
 fn shape_of(k: Kind) -> Shape
@@ -119,54 +103,44 @@ fn is_allowed(k: Kind, s: &[u8]) -> bool
     ensures { result ≡ allowed_at k s.now }
 {
     let shape = shape_of(k);
-    let top = shape.top;
-    let n = shape.count;
-    if s[4] > 1 {
-        return false;
-    }
-    if s[5] > top {
-        return false;
-    }
-    if !time_allowed(signed(read(s, 6, 8))) {
-        return false;
-    }
-    are_finite(s, n)
+    s[4] <= 1
+        && s[5] <= shape.top
+        && time_allowed(signed(read(s, 6, 8)))
+        && are_finite(s, shape.count)
 }
 
 // The tests from the length on, for a known kind; n is the length that the record gives.
-fn judge(k: Kind, n: u64, s: &[u8]) -> Head
+fn judge(k: Kind, n: u64, s: &[u8]) -> Result<Kind, Refusal>
     requires { (4 ≤ length s.now) × (n ≡ field 0 2 s.now) }
-    ensures { result ≡ judged (Found.Known k) s.now }
+    ensures { result ≡ judged (Some k) s.now }
 {
     let shape = shape_of(k);
     let want = shape.length;
     if n != want as u64 {
-        return Head::Bad(12);
+        return Err(Refusal::WrongLength);
     }
     if s.len() < want {
-        return Head::Bad(11);
+        return Err(Refusal::CutShort);
     }
     if is_allowed(k, s) {
-        Head::Good(k)
+        Ok(k)
     } else {
-        Head::Bad(14)
+        Err(Refusal::NotAllowed)
     }
 }
 
-fn test_head(s: &[u8]) -> Head
+fn test_head(s: &[u8]) -> Result<Kind, Refusal>
     ensures { result ≡ head_of s.now }
 {
     if s.len() < 4 {
-        return Head::Bad(11);
+        return Err(Refusal::CutShort);
     }
     let n = read(s, 0, 2);
     if n < 4 {
-        return Head::Bad(12);
+        return Err(Refusal::WrongLength);
     }
-    match kind_of(read(s, 2, 2)) {
-        Found::Known(k) => judge(k, n, s),
-        Found::Unknown => Head::Bad(13),
-    }
+    let k = kind_of(read(s, 2, 2)).ok_or(Refusal::UnknownKind)?;
+    judge(k, n, s)
 }
 
 fn state_of(s: &[u8]) -> Record
@@ -247,12 +221,7 @@ pub fn decode(s: &[u8]) -> Decoded
     ensures { result ≡ decode_of s.now }
 {
     match test_head(s) {
-        Head::Good(k) => {
-            let shape = shape_of(k);
-            let n = shape.length;
-            let r = record_of(k, s);
-            Decoded::Whole(r, n)
-        }
-        Head::Bad(no) => Decoded::Refused(no),
+        Ok(k) => Decoded::Whole(record_of(k, s), shape_of(k).length),
+        Err(refusal) => Decoded::Refused(refusal),
     }
 }

@@ -1,5 +1,6 @@
 -- A version in its bytes reads as it was put, whatever stands behind it; and more bytes behind one change nothing. Assumes
 -- nothing.
+use Rattle.std.specs.Prelude.{None, is_none}
 use Prim.Native.Nat.{ℕ, ◌≤◌, ◌<◌, ◌^◌}
 use native.Mathlib.Omega.{arith}
 use mathlib.Core.Path.{◌≡◌, refl, ap, ◌∙◌}
@@ -73,18 +74,18 @@ module _ (k : ℕ) (x : Setting) (rest : List ℕ) where
   whole_back : Held x → x.body < 256 → setting_at s ≡ x
   whole_back h b = same (body_back b) (mu-back h.0) (radius-back h.1.0) (closed-back h.1.1.0) (fair_back h.1.1.1.0)
 
-  stands-back : Held x → refusal_of x ≡ 0 → k < 256 ^ 4 → is_version k s ≡ true
+  stands-back : Held x → refusal_of x ≡ None → k < 256 ^ 4 → is_version k s ≡ true
   stands-back h z b =
       let e = ap refusal_of (whole_back h (omega (arith, body-allowed x z))) ∙ z in
-      both _ _ (both _ _ (both _ _ (both _ _ (eq-eqb _ _ length_back) (eq-eqb _ _ kind-back)) (eq-eqb _ _ (version-back b))) (eq-eqb _ _ zeros-back)) (eq-eqb _ _ e)
+      both _ _ (both _ _ (both _ _ (both _ _ (eq-eqb _ _ length_back) (eq-eqb _ _ kind-back)) (eq-eqb _ _ (version-back b))) (eq-eqb _ _ zeros-back)) (ap is_none e)
 
 -- the setting that was put
-pub setting-back : (k : ℕ) (x : Setting) (rest : List ℕ) → Held x → refusal_of x ≡ 0 → setting_at (version_bytes k x ++ rest) ≡ x
+pub setting-back : (k : ℕ) (x : Setting) (rest : List ℕ) → Held x → refusal_of x ≡ None → setting_at (version_bytes k x ++ rest) ≡ x
 unfolding s
 setting-back k x rest h z = whole_back k x rest h (omega (arith, body-allowed x z))
 
 -- it is an allowed version k
-pub is-version-back : (k : ℕ) (x : Setting) (rest : List ℕ) → Held x → refusal_of x ≡ 0 → k < 256 ^ 4 → is_version k (version_bytes k x ++ rest) ≡ true
+pub is-version-back : (k : ℕ) (x : Setting) (rest : List ℕ) → Held x → refusal_of x ≡ None → k < 256 ^ 4 → is_version k (version_bytes k x ++ rest) ≡ true
 unfolding s
 is-version-back k x rest h z b = stands-back k x rest h z b
 
@@ -101,8 +102,8 @@ module _ (l t : List ℕ) (h : 44 ≤ length l) where
 
   pub version-more : (k : ℕ) → is_version k (l ++ t) ≡ is_version k l
   version-more k =
-      ap (λ (n : ℕ). eqb n 44 && eqb (field 2 2 (l ++ t)) 5 && eqb (field 4 4 (l ++ t)) k && eqb (field 9 3 (l ++ t)) 0 && eqb (refusal_of (setting_at (l ++ t))) 0) (field-more l t 0 2 (omega arith))
-      ∙ ap (λ (n : ℕ). eqb (field 0 2 l) 44 && eqb n 5 && eqb (field 4 4 (l ++ t)) k && eqb (field 9 3 (l ++ t)) 0 && eqb (refusal_of (setting_at (l ++ t))) 0) (field-more l t 2 2 (omega arith))
-      ∙ ap (λ (n : ℕ). eqb (field 0 2 l) 44 && eqb (field 2 2 l) 5 && eqb n k && eqb (field 9 3 (l ++ t)) 0 && eqb (refusal_of (setting_at (l ++ t))) 0) (field-more l t 4 4 (omega arith))
-      ∙ ap (λ (n : ℕ). eqb (field 0 2 l) 44 && eqb (field 2 2 l) 5 && eqb (field 4 4 l) k && eqb n 0 && eqb (refusal_of (setting_at (l ++ t))) 0) (field-more l t 9 3 (omega arith))
-      ∙ ap (λ (y : Setting). eqb (field 0 2 l) 44 && eqb (field 2 2 l) 5 && eqb (field 4 4 l) k && eqb (field 9 3 l) 0 && eqb (refusal_of y) 0) setting-more
+      ap (λ (n : ℕ). eqb n 44 && eqb (field 2 2 (l ++ t)) 5 && eqb (field 4 4 (l ++ t)) k && eqb (field 9 3 (l ++ t)) 0 && is_none (refusal_of (setting_at (l ++ t)))) (field-more l t 0 2 (omega arith))
+      ∙ ap (λ (n : ℕ). eqb (field 0 2 l) 44 && eqb n 5 && eqb (field 4 4 (l ++ t)) k && eqb (field 9 3 (l ++ t)) 0 && is_none (refusal_of (setting_at (l ++ t)))) (field-more l t 2 2 (omega arith))
+      ∙ ap (λ (n : ℕ). eqb (field 0 2 l) 44 && eqb (field 2 2 l) 5 && eqb n k && eqb (field 9 3 (l ++ t)) 0 && is_none (refusal_of (setting_at (l ++ t)))) (field-more l t 4 4 (omega arith))
+      ∙ ap (λ (n : ℕ). eqb (field 0 2 l) 44 && eqb (field 2 2 l) 5 && eqb (field 4 4 l) k && eqb n 0 && is_none (refusal_of (setting_at (l ++ t)))) (field-more l t 9 3 (omega arith))
+      ∙ ap (λ (y : Setting). eqb (field 0 2 l) 44 && eqb (field 2 2 l) 5 && eqb (field 4 4 l) k && eqb (field 9 3 l) 0 && is_none (refusal_of y)) setting-more

@@ -1,5 +1,6 @@
 -- A used part, and one version more behind it: it is a used part again, the new version is found as it was put, and every
 -- earlier one as before. Assumes nothing.
+use Rattle.std.specs.Prelude.{Ok, None, is_none}
 use Prim.Native.Nat.{ℕ, zero, suc, ◌+◌, ◌-◌, ◌*◌, ◌%◌, ◌≤◌, ◌<◌}
 use native.Mathlib.Nat.{add-zero}
 use native.Mathlib.Omega.{arith}
@@ -13,10 +14,10 @@ use borrow.Author.Tests.{eq-eqb, le-leb, leb-true}
 use Rattle.facts.proofs.Truth.{and_0, and-1, both}
 use Rattle.field.specs.Bytes.{field}
 use Rattle.settings.specs.declared.allowed.Setting.{Setting}
-use Rattle.settings.specs.declared.Looked.TheVariants.{Found}
 use Rattle.settings.specs.Allowed.{refusal_of}
 use Rattle.settings.specs.Layout.{setting_at, is_version, versions_from, versions_in, are_whole, version_bytes, Held}
 use Rattle.settings.specs.History.{version_in, look_up}
+use Rattle.settings.proofs.Allows.{none-by}
 use Rattle.settings.proofs.Versions.{version-length}
 use Rattle.settings.proofs.Cases.{none_yet, there}
 use Rattle.settings.proofs.Backs.{setting-back, is-version-back, setting-more, version-more}
@@ -98,18 +99,18 @@ module _ (s : List ℕ) (k : ℕ) (w : are_whole s ≡ true) (g : 1 ≤ k) (h : 
   pub numbered : field 4 4 p ≡ k
   numbered =
       let a = eqb (field 0 2 p) 44 && eqb (field 2 2 p) 5 in
-      let b = and_0 (a && eqb (field 4 4 p) k && eqb (field 9 3 p) 0) (eqb (refusal_of (setting_at p)) 0) stands in
+      let b = and_0 (a && eqb (field 4 4 p) k && eqb (field 9 3 p) 0) (is_none (refusal_of (setting_at p))) stands in
       let c = and_0 (a && eqb (field 4 4 p) k) (eqb (field 9 3 p) 0) b in
       eqb→eq _ _ (subst T (sym (and-1 a (eqb (field 4 4 p) k) c)) tt)
 
-  pub version-allowed : refusal_of (version_in s k) ≡ 0
+  pub version-allowed : refusal_of (version_in s k) ≡ None
   version-allowed =
       let a = eqb (field 0 2 p) 44 && eqb (field 2 2 p) 5 && eqb (field 4 4 p) k && eqb (field 9 3 p) 0 in
-      eqb→eq _ _ (subst T (sym (and-1 a (eqb (refusal_of (setting_at p)) 0) stands)) tt)
+      none-by _ (and-1 a (is_none (refusal_of (setting_at p))) stands)
 
 -- ---- one version more
 
-module _ (s : List ℕ) (x : Setting) (w : are_whole s ≡ true) (room : versions_in (length s) < 64) (held : Held x) (allow : refusal_of x ≡ 0) where
+module _ (s : List ℕ) (x : Setting) (w : are_whole s ≡ true) (room : versions_in (length s) < 64) (held : Held x) (allow : refusal_of x ≡ None) where
   abbrev n : ℕ
   n = versions_in (length s)
 
@@ -141,12 +142,12 @@ module _ (s : List ℕ) (x : Setting) (w : are_whole s ≡ true) (room : version
       whole_by longer (n + 1) longer-size (omega arith) (subst (λ (m : ℕ). versions_from m 1 longer ≡ true) e (one_more n 1 longer a b))
 
   -- what is stored is found again under its number
-  pub last_found : look_up longer (n + 1) ≡ Found x
+  pub last_found : look_up longer (n + 1) ≡ Ok x
   last_found =
       let e : 44 * (n + 1 - 1) ≡ 44 * n = omega arith in
       let f : version_in longer (n + 1) ≡ x =
       ap (λ (m : ℕ). setting_at (drop m longer)) e ∙ ap setting_at (last ∙ sym (append-nil v)) ∙ setting-back (n + 1) x [] held allow in
-      sym (there longer (n + 1) longer-whole (omega arith) (omega (arith, longer-count))) ∙ ap Found f
+      sym (there longer (n + 1) longer-whole (omega arith) (omega (arith, longer-count))) ∙ ap Ok f
 
   -- no earlier version is changed
   pub earlier-same : (j : ℕ) → j ≤ n → look_up longer j ≡ look_up s j
@@ -158,5 +159,5 @@ module _ (s : List ℕ) (x : Setting) (w : are_whole s ≡ true) (room : version
       let f : version_in longer (suc j) ≡ version_in s (suc j) =
       ap setting_at (drop-append-le o s v (omega (arith, z))) ∙ setting-more (drop o s) v l in
       sym (there longer (suc j) longer-whole (omega arith) (omega (arith, longer-count)))
-      ∙ ap Found f
+      ∙ ap Ok f
       ∙ there s (suc j) w (omega arith) h

@@ -3,7 +3,7 @@
 --
 --   0 length (2)   2 kind (2)   4 version number (4)   8 body (1)   9 zero (3)
 --   12 mu   20 surface radius   28 closed   36 fair (8 each)
-use Rattle.std.specs.Prelude.{ℕ, zero, suc, ◌/◌, ◌%◌, Bool, true, ◌&&◌, List, [], ◌∷◌, ◌++◌, length, drop, leb, eqb, Float}
+use Rattle.std.specs.Prelude.{ℕ, zero, suc, ◌/◌, ◌%◌, Bool, true, ◌&&◌, List, [], ◌∷◌, ◌++◌, length, drop, leb, eqb, is_none, Float}
 use Rattle.std.specs.Float.{binary64}
 use Rattle.std.specs.Float.Ieee.{to_bits}
 use Rattle.real.specs.F64.{bits}
@@ -31,7 +31,7 @@ setting_at s =
 abbrev pub is_version : ℕ → List ℕ → Bool
 is_version k s =
     eqb (field 0 2 s) 44 && eqb (field 2 2 s) 5 && eqb (field 4 4 s) k && eqb (field 9 3 s) 0
-    && eqb (refusal_of (setting_at s)) 0
+    && is_none (refusal_of (setting_at s))
 
 -- n of them, from version k on
 unfoldable pub versions_from : ℕ → ℕ → List ℕ → Bool

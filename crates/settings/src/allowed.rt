@@ -1,10 +1,10 @@
 // What a setting may be.
-ghost use Rattle.std.specs.Prelude.{◌≡◌};
-ghost use Rattle.table.specs.declared.Test.TheVariants.{Passed};
-ghost use Rattle.table.specs.Tests.{◌▷◌, first_failing};
+ghost use Rattle.std.specs.Prelude.{◌≡◌, [], ◌∷◌};
+ghost use Rattle.table.specs.Tests.{entry, ◌▷◌, first_failing};
 ghost use Rattle.settings.specs.Allowed.{finite_row, fraction_row, fractions_row, setting_tests, refusal_of};
 
-use table::{Name, Part, Test};
+use refusal::Refusal;
+use table::{Entry, Limit, Name, Part};
 
 // A body (0 earth, 1 moon), its constants, and the two fractions of the grades.
 #[derive(Clone, Copy)]
@@ -17,50 +17,62 @@ pub struct Setting {
 }
 
 // Row 1: here the tests begin.
-fn finite_row(x: Setting) -> Test
-    ensures { result ≡ Passed ▷ finite_row x }
+#[tactic(auto, using(table::proofs::Laws::told_fails, table::proofs::Laws::told_passes))]
+fn finite_row(x: Setting) -> Result<(), Entry>
+    ensures { result ≡ Ok tt ▷ finite_row x }
 {
-    let a = rows::finite_number(Test::Passed, Name::Mu, x.mu);
-    let b = rows::finite_number(a, Name::Radius, x.radius);
-    let c = rows::finite_number(b, Name::Closed, x.closed);
-    rows::finite_number(c, Name::Fair, x.fair)
+    rows::finite_number(Name::Mu, x.mu)?;
+    rows::finite_number(Name::Radius, x.radius)?;
+    rows::finite_number(Name::Closed, x.closed)?;
+    rows::finite_number(Name::Fair, x.fair)
+}
+
+fn test(name: Name, amount: f64, limit: Limit) -> Result<(), Entry>
+    ensures { result ≡ Ok tt ▷ (entry Refusal.SettingOutOfRange name Part.Whole amount limit ∷ []) }
+{
+    table::test(Refusal::SettingOutOfRange, name, Part::Whole, amount, limit)
 }
 
 // Row 22, of one fraction.
-fn fraction_row(t: Test, name: Name, x: f64) -> Test
-    ensures { result ≡ t ▷ fraction_row name x }
+#[tactic(auto, using(table::proofs::Laws::told_fails, table::proofs::Laws::told_passes))]
+fn fraction_row(name: Name, x: f64) -> Result<(), Entry>
+    ensures { result ≡ Ok tt ▷ fraction_row name x }
 {
-    let a = table::at_least(t, 22, name, Part::Whole, x, 0.0);
-    table::at_most(a, 22, name, Part::Whole, x, 1.0)
+    test(name, x, Limit::AtLeast(0.0))?;
+    test(name, x, Limit::AtMost(1.0))
 }
 
 // Row 22, of both.
-fn fractions_row(t: Test, closed: f64, fair: f64) -> Test
-    ensures { result ≡ t ▷ fractions_row closed fair }
+#[tactic(auto, using(table::proofs::Laws::told_fails, table::proofs::Laws::told_passes))]
+fn fractions_row(closed: f64, fair: f64) -> Result<(), Entry>
+    ensures { result ≡ Ok tt ▷ fractions_row closed fair }
 {
-    let a = fraction_row(fraction_row(t, Name::Closed, closed), Name::Fair, fair);
-    table::at_most(a, 22, Name::Closed, Part::Whole, closed, fair)
+    fraction_row(Name::Closed, closed)?;
+    fraction_row(Name::Fair, fair)?;
+    test(Name::Closed, closed, Limit::AtMost(fair))
 }
 
 // Rows 1, 2 and 22.
-pub fn tests(x: Setting) -> Test
+pub fn tests(x: Setting) -> Result<(), Entry>
     ensures { result ≡ first_failing (setting_tests x) }
 {
-    let a = rows::mu_row(finite_row(x), x.mu);
-    rows::radius_row(fractions_row(a, x.closed, x.fair), x.radius)
+    finite_row(x)?;
+    rows::mu_row(x.mu)?;
+    fractions_row(x.closed, x.fair)?;
+    rows::radius_row(x.radius)
 }
 
-// The number with which a setting is refused, and 0 for one that is allowed.
-pub fn refusal_of(x: Setting) -> u32
+// Why a setting is refused, and None for one that is allowed.
+pub fn refusal_of(x: Setting) -> Option<Refusal>
     ensures { result ≡ refusal_of x }
 {
     match tests(x) {
-        Test::Failed(e) => e.number,
-        Test::Passed => {
+        Err(e) => Some(e.refusal),
+        Ok(()) => {
             if x.body > 1 {
-                return 14;
+                return Some(Refusal::NotAllowed);
             }
-            0
+            None
         }
     }
 }

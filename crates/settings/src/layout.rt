@@ -28,19 +28,11 @@ pub fn setting_of(s: &[u8]) -> Setting
 fn is_version(k: u64, s: &[u8]) -> bool
     ensures { result ≡ is_version k s.now }
 {
-    if read(s, 0, 2) != 44 {
-        return false;
-    }
-    if read(s, 2, 2) != 5 {
-        return false;
-    }
-    if read(s, 4, 4) != k {
-        return false;
-    }
-    if read(s, 9, 3) != 0 {
-        return false;
-    }
-    refusal_of(setting_of(s)) == 0
+    read(s, 0, 2) == 44
+        && read(s, 2, 2) == 5
+        && read(s, 4, 4) == k
+        && read(s, 9, 3) == 0
+        && refusal_of(setting_of(s)).is_none()
 }
 
 // Whether versions 1 to n stand at the front of s.
@@ -48,13 +40,10 @@ fn are_versions(n: usize, s: &[u8]) -> bool
     requires { 44 * n ≤ length s.now }
     ensures { result ≡ versions_from n 1 s.now }
 {
-    let mut i = 0;
-    while i < n {
-        let at = 44 * i;
-        if !is_version(i as u64 + 1, &s[at..]) {
+    for i in 0..n {
+        if !is_version(i as u64 + 1, &s[44 * i..]) {
             return false;
         }
-        i += 1;
     }
     true
 }
@@ -63,14 +52,8 @@ fn are_versions(n: usize, s: &[u8]) -> bool
 pub fn is_whole(s: &[u8]) -> bool
     ensures { result ≡ are_whole s.now }
 {
-    if s.len() % 44 != 0 {
-        return false;
-    }
     let n = s.len() / 44;
-    if n > 64 {
-        return false;
-    }
-    are_versions(n, s)
+    s.len() % 44 == 0 && n <= 64 && are_versions(n, s)
 }
 
 // The header: length, kind, number, body, zero.

@@ -2,7 +2,6 @@
 // read, a message goes to standard error and nothing to standard output.
 #![tactic(auto)]
 
-use script::Shown;
 use session::Place;
 
 // One byte more than a session may have, so that a longer one is known as such.
@@ -16,20 +15,14 @@ fn main(rt: HostRuntime) {
 
 fn show(rt: &(impl Print + Eprint), s: &[u8]) {
     let mut out = [0u8; 512];
-    let mut place = Place { at: 0, offset: 0 };
-    loop {
-        match script::show_at(s, place, &mut out) {
-            Shown::Lines(n, behind) => {
-                if !console::print(rt, &out[..n]) {
-                    return;
-                }
-                place = behind;
-            }
-            Shown::Last(n) => {
-                console::print(rt, &out[..n]);
-                return;
-            }
-            Shown::Refused(_) => return,
+    let mut next = Some(Place { at: 0, offset: 0 });
+    while let Some(place) = next {
+        let Ok(shown) = script::show_at(s, place, &mut out) else {
+            return;
+        };
+        if !console::print(rt, &out[..shown.length]) {
+            return;
         }
+        next = shown.next;
     }
 }

@@ -1,4 +1,7 @@
 -- Every number of an answer is finite, so that no answer holds a NaN, and the larger k stands first. Assumes nothing.
+use Rattle.table.specs.declared.Entry.{Entry}
+use Rattle.std.specs.Prelude.{Err, Ok, Result}
+use Rattle.refusal.specs.declared.Refusal.{Refusal}
 use Rattle.std.proofs.Common.{◌≡◌, ℕ, zero, suc, ◌+◌, ◌*◌, ◌^◌, ◌<◌, ◌≤◌, true, false, not, ◌&&◌, ◌||◌, T, eqb, ltb, pos, sym, refl, ◌∙◌, mul-pos, arith, lit≤, ltb-false, le-ltb, lt-ltb}
 use mathlib.Core.Bool.{false≢true, and-true}
 use lib.Dec.{eqb-zero-suc}
@@ -13,8 +16,6 @@ use Rattle.root.specs.Root.{root_of}
 use Rattle.root.proofs.Sign.{root-not-below}
 use Rattle.vector.specs.declared.Vector.{Vector}
 use Rattle.vector.specs.Vectors.{dot_of}
-use Rattle.table.specs.declared.Test.{Test}
-use Rattle.table.specs.declared.Test.TheVariants.{Passed, Failed}
 use Rattle.table.specs.Tests.{first_failing, all_meet}
 use Rattle.table.proofs.Laws.{all_met_lem, met-left, met-right, MetAt, met_at}
 use Rattle.rows.proofs.Components.{Finite}
@@ -22,8 +23,6 @@ use Rattle.wheel.specs.Wheel.{direction_of, signed_sine, signed_cosine, over_of}
 use Rattle.wheel.proofs.Sizes.{sine-within, cosine-within}
 use Rattle.sight.specs.declared.Line.{Line}
 use Rattle.sight.specs.declared.Points.{Points}
-use Rattle.sight.specs.declared.Sight.{Sight}
-use Rattle.sight.specs.declared.Sight.TheVariants.{Crossed, Refused}
 use Rattle.sight.specs.Sight.{elevated_of, sight_point, input_tests, radicand_row, points_of, sight_line, sight_tests, answered, sight_of}
 use Rattle.sight.proofs.Laws.{within-turn}
 use Rattle.sight.proofs.Larger.{larger-first}
@@ -175,9 +174,9 @@ module _ (a p : Vector) (e : ℕ) (h v : Vector) (met : all_meet (input_tests a 
   handed : all_meet (radicand_row (sight_line a p e h v)) ≡ true → Handed (points_of a (sight_line a p e h v))
   handed g = points-finite a p e h v A P (within-turn a p e h v met) H G (not-true ((sight_line a p e h v).radicand <ᶠ f0) (sym eighteen ∙ g))
 
-abbrev pub Clean : Sight → Type 0
-Clean (Crossed q) = Handed q
-Clean (Refused n) = Prim.Unit
+abbrev pub Clean : Result Points Refusal → Type 0
+Clean (Ok q) = Handed q
+Clean (Err n) = Prim.Unit
 
 -- whatever the inputs are
 pub sight-clean : (a p : Vector) (e : ℕ) (h v : Vector) → Clean (sight_of a p e h v)
@@ -187,8 +186,8 @@ sight-clean a p e h v = go (first_failing (sight_tests a p e h v)) refl
     line : Line
     line = sight_line a p e h v
 
-    go : (t : Test) → first_failing (sight_tests a p e h v) ≡ t → Clean (answered t a line)
-    go (Failed f) q = tt
-    go Passed q =
+    go : (t : Result Unit Entry) → first_failing (sight_tests a p e h v) ≡ t → Clean (answered t a line)
+    go (Err f) q = tt
+    go (Ok tt) q =
         let m = all_met_lem (sight_tests a p e h v) q in
         handed a p e h v (met-left (input_tests a p e h v) (radicand_row line) m) (met-right (input_tests a p e h v) (radicand_row line) m)

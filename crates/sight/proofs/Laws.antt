@@ -1,4 +1,6 @@
 -- The refusal number of the sight line is the first row's that applies; 16 is given exactly where E is over 3,599. Assumes nothing.
+use Rattle.table.specs.declared.Entry.{Entry}
+use Rattle.std.specs.Prelude.{Ok, Result, Err}
 use Rattle.std.proofs.Common.{◌≡◌, ℕ, ◌*◌, ◌<◌, ◌≤◌, Bool, true, false, T, ltb, List, [], ◌∷◌, ℤ, pos, sym, refl, ap, ◌∙◌, subst, mul-one, mul_right_comm, le_of_mul-le-mul_right, arith, lit≤, ltb-false, ltb-true, lt-ltb}
 use lib.Ieee.{Float, nan, inf, fin, binary64, up, down, round, of_bits, of_int, le, lt, eq}
 use lib.Ieee.Back.{round_whole}
@@ -9,22 +11,19 @@ use lib.Ieee.Order.{round_mono}
 use Rattle.real.specs.F64.{◌≤ᶠ◌, bits}
 use Rattle.real.proofs.Bounds.{Within, Signed, round-signed, below-whole, or_cases}
 use Rattle.vector.specs.declared.Vector.{Vector}
-use Rattle.table.specs.declared.Test.{Test}
-use Rattle.table.specs.declared.Test.TheVariants.{Passed, Failed}
 use Rattle.table.specs.Tests as Tests
 use Rattle.table.specs.Tests.{◌▷◌, first_failing, all_meet, first_row}
 use Rattle.table.proofs.Laws.{first_failing_lem, then, all_met_lem, first_row_lem, met_at}
 use Rattle.wheel.specs.Wheel.{direction_of, wheel_of}
-use Rattle.wheel.specs.declared.Elevation.TheVariants.{Angle}
 use Rattle.sight.specs.declared.Line.{Line}
 use Rattle.sight.specs.Sight.{input_tests, radicand_row, sight_line, sight_tests, answered, sight_of, sight_number}
 
 -- ---- the table
 
-answered-number : (t : Test) (a : Vector) (l : Line) → sight_number (answered t a l) ≡ Tests.test_number t
+answered-number : (t : Result Unit Entry) (a : Vector) (l : Line) → sight_number (answered t a l) ≡ Tests.test_number t
 unfolding answered sight_number Tests.test_number
-answered-number Passed a l = refl
-answered-number (Failed f) a l = refl
+answered-number (Ok tt) a l = refl
+answered-number (Err f) a l = refl
 
 -- the rows in the order of the request
 abbrev pub sight_order : List ℕ
@@ -88,13 +87,13 @@ within-turn a p e h v q = ltb-true e 3600 (sym (wheel-turn e) ∙ met_at 22 (inp
 
 -- ---- the code's way: the tests of the inputs, and then row 18
 
-module _ (a p : Vector) (e : ℕ) (h v : Vector) (t : Test) (told : t ≡ Passed ▷ input_tests a p e h v) where
+module _ (a p : Vector) (e : ℕ) (h v : Vector) (t : Result Unit Entry) (told : t ≡ Ok tt ▷ input_tests a p e h v) where
   pub tested : first_failing (sight_tests a p e h v) ≡ t ▷ radicand_row (sight_line a p e h v)
   tested =
       sym (first_failing_lem (sight_tests a p e h v))
-      ∙ sym (then Passed (input_tests a p e h v) (radicand_row (sight_line a p e h v)))
-      ∙ ap (λ (x : Test). x ▷ radicand_row (sight_line a p e h v)) (sym told)
+      ∙ sym (then (Ok tt) (input_tests a p e h v) (radicand_row (sight_line a p e h v)))
+      ∙ ap (λ (x : Result Unit Entry). x ▷ radicand_row (sight_line a p e h v)) (sym told)
 
-  pub wheel_told_lem : t ≡ Passed → wheel_of e ≡ Angle (direction_of e)
+  pub wheel_told_lem : t ≡ Ok tt → wheel_of e ≡ Ok (direction_of e)
   unfolding wheel_of
   wheel_told_lem q = rw (lt-ltb e 3600 (within-turn a p e h v (all_met_lem (input_tests a p e h v) (sym (first_failing_lem (input_tests a p e h v)) ∙ sym told ∙ q))))

@@ -6,6 +6,7 @@ ghost use Rattle.text.specs.Text.{Put};
 ghost use Rattle.text.specs.Pieces.{Laid};
 ghost use Rattle.solutions.specs.Solutions.{grade_text, count_pieces, times_pieces, graded_pieces, done_pieces, turned_pieces, orbit_pieces, transfer_pieces, advanced_pieces, transferred_pieces};
 
+use refusal::Refusal;
 use solve::{Advanced, Grade, Solution, Transferred};
 use vector::{State, Vector};
 
@@ -93,7 +94,7 @@ pub fn tell_advance(buf: &mut [u8], a: Advanced) -> usize
 {
     match a {
         Advanced::Found(s, x, turns) => orbit(buf, s, x, turns),
-        Advanced::TooLong => columns::refused(buf, 7),
+        Advanced::TooLong => columns::refused(buf, Refusal::TooLong),
         Advanced::NotFinished(s) => brackets::stopped(buf, s),
         Advanced::Refused(n) => columns::refused(buf, n),
     }
@@ -105,8 +106,8 @@ pub fn tell_transfer(buf: &mut [u8], a: Transferred) -> usize
 {
     match a {
         Transferred::Found(v, x) => velocity(buf, v, x),
-        Transferred::TooLong => columns::refused(buf, 7),
-        Transferred::TooShort => columns::refused(buf, 8),
+        Transferred::TooLong => columns::refused(buf, Refusal::TooLong),
+        Transferred::TooShort => columns::refused(buf, Refusal::TooShort),
         Transferred::NotFinished(s) => brackets::stopped(buf, s),
         Transferred::Refused(n) => columns::refused(buf, n),
     }

@@ -1,5 +1,7 @@
 -- Where the trials begin. A bracket that passes row 6, for a time that passes row 5, is sound.
 -- What a run from the start hands out, where a limit stops it, passes; and trials that go on from there are one run. Assumes nothing.
+use Rattle.reason.specs.declared.Amiss.{Amiss}
+use Rattle.std.specs.Prelude.{Ok, Result, Err}
 use Prim.Native.Nat.{ℕ}
 use native.Mathlib.Nat as Nat
 use mathlib.Core.Path.{◌≡◌, refl, sym, ap, ◌∙◌, subst}
@@ -23,15 +25,12 @@ use Rattle.iterator.proofs.Ends.{to-judged, to-stand, lower-from, upper-to}
 use Rattle.iterator.proofs.Single.{Sound, Agreeing, told-agrees, time_finite_lem}
 use Rattle.problem.specs.Problems.{judge_of, start_of, held_of, stopped_of}
 use Rattle.problem.specs.Held.{checked_of}
-use Rattle.problem.specs.declared.Checked.{Checked}
-use Rattle.problem.specs.declared.Checked.TheVariants.{Fine, Wrong}
 use Rattle.trials.specs.Ended.{begun_by, begun_of}
 use Rattle.trials.proofs.Goes.{Goes, goes, goes_back}
 use Rattle.trials.specs.Carried.{time_input, times_input}
 use Rattle.problem.specs.declared.Problem.{Problem}
 use Rattle.iterator.specs.declared.Beginning.{Beginning}
 use Rattle.iterator.specs.declared.Beginning.TheVariants.{Start, Stopped}
-use Rattle.trials.specs.declared.Begun.TheVariants as B
 use Rattle.problem.proofs.Told.{told}
 use Rattle.problem.proofs.Starts.{start-sound}
 use Rattle.solve.proofs.Asked.{Asked}
@@ -71,18 +70,18 @@ module _ (problem : Problem) (asked : Float) (a : Asked asked) where
         above-agrees = u.agree;
       }
 
-  pub begun-sound : (g : Beginning) (s : Bracket) → begun_of problem asked g ≡ B.At s → Sound asked s
+  pub begun-sound : (g : Beginning) (s : Bracket) → begun_of problem asked g ≡ Ok s → Sound asked s
   unfolding begun_of begun_by
   begun-sound Start s e =
       let i : start_of problem ≡ s = cc in
       subst (Sound asked) i (start-sound problem asked a.within a.at-least)
   begun-sound (Stopped b) s e = go (checked_of problem asked b) refl e
     where
-      go : (c : Checked) → checked_of problem asked b ≡ c → begun_by c b ≡ B.At s → Sound asked s
-      go Fine t e =
+      go : (c : Result Unit Amiss) → checked_of problem asked b ≡ c → begun_by c b ≡ Ok s → Sound asked s
+      go (Ok tt) t e =
           let i : b ≡ s = cc in
           subst (Sound asked) i (goes-sound (goes problem asked b t))
-      go (Wrong w) t e = let z : ◌≡◌ {A = ℕ} 0 1 = cc in absurd (zero_one z)
+      go (Err w) t e = let z : ◌≡◌ {A = ℕ} 0 1 = cc in absurd (zero_one z)
 
   -- ---- what a run from the start hands out, where a limit stops it, passes row 6
   pub stopped_goes : (l : ℕ) → Goes problem asked (stopped_of problem asked l (start_of problem))
@@ -101,11 +100,11 @@ module _ (problem : Problem) (asked : Float) (a : Asked asked) where
         count = Nat.le_trans (to-under (judge_of problem asked) asked l (start_of problem) z.order) (last-ends problem asked).count;
       }
 
-  pub stopped-begins : (l : ℕ) → begun_of problem asked (Stopped (stopped_of problem asked l (start_of problem))) ≡ B.At (stopped_of problem asked l (start_of problem))
+  pub stopped-begins : (l : ℕ) → begun_of problem asked (Stopped (stopped_of problem asked l (start_of problem))) ≡ Ok (stopped_of problem asked l (start_of problem))
   unfolding begun_of begun_by
   stopped-begins l =
       let b = stopped_of problem asked l (start_of problem) in
-      ap (λ (c : Checked). begun_by c b) (goes_back problem asked b (stopped_goes l))
+      ap (λ (c : Result Unit Amiss). begun_by c b) (goes_back problem asked b (stopped_goes l))
 
   -- and row 1
   pub stopped-finite : (l : ℕ) → all_meet (times_input (Stopped (stopped_of problem asked l (start_of problem)))) ≡ true

@@ -1,4 +1,6 @@
 -- What a solve finds is graded by 01's fractions of the size of time asked for, from wherever its trials began. Assumes nothing.
+use Rattle.std.specs.Prelude.{Err, Ok, Result}
+use Rattle.table.specs.declared.Entry.{Entry}
 use Prim.Native.Nat.{ℕ}
 use mathlib.Core.Path.{◌≡◌, refl}
 use mathlib.Core.Bool.{Bool, true, false, cond}
@@ -6,8 +8,6 @@ use lib.Ieee.{Float}
 use Rattle.real.specs.F64.{size_of}
 use Rattle.vector.specs.declared.Vector.{Vector}
 use Rattle.vector.specs.declared.State.{State}
-use Rattle.table.specs.declared.Test.{Test}
-use Rattle.table.specs.declared.Test.TheVariants.{Passed, Failed}
 use Rattle.table.specs.Tests.{first_failing}
 use Rattle.iterator.specs.Run.{more}
 use Rattle.iterator.specs.declared.Judgement.{Judgement}
@@ -15,8 +15,6 @@ use Rattle.iterator.specs.declared.Judgement.TheVariants.{Low, High, Under, Over
 use Rattle.iterator.specs.declared.Bracket.{Bracket}
 use Rattle.iterator.specs.declared.Beginning.{Beginning}
 use Rattle.kepler.specs.declared.Motion.{Motion}
-use Rattle.kepler.specs.declared.Arrival.{Arrival}
-use Rattle.kepler.specs.declared.Arrival.TheVariants.{InRange, OutOfRange}
 use Rattle.kepler.specs.Kepler.{turned_of, arrival_of}
 use Rattle.lambert.specs.declared.Way.{Way}
 use Rattle.lambert.specs.declared.Transfer.{Transfer}
@@ -74,10 +72,10 @@ concluded-own size asked s = go (more s)
     go true = tt
     go false = ending-own size asked s s.below s.above
 
-found-own : (t size : Float) (w : ℕ) (x : Solution) (r : Arrival) → Own size x → OwnAdvanced size (advanced_at t w x r)
+found-own : (t size : Float) (w : ℕ) (x : Solution) (r : Result State Entry) → Own size x → OwnAdvanced size (advanced_at t w x r)
 unfolding advanced_at
-found-own t size w x (InRange s) e = e
-found-own t size w x (OutOfRange f) e = tt
+found-own t size w x (Ok s) e = e
+found-own t size w x (Err f) e = tt
 
 arrived-own : (m : Motion) (from : State) (t size : Float) (w : ℕ) (o : Outcome) → OwnOutcome size o → OwnAdvanced size (advanced_as m from t w o)
 unfolding advanced_as
@@ -90,9 +88,9 @@ moved-own : (d : Transfer) (size : Float) (o : Outcome) → OwnOutcome size o �
 unfolding transferred_as transferred_at
 moved-own d size (O.Met x) e = go (first_failing (result_row (velocity_at d x.n)))
   where
-    go : (p : Test) → OwnTransferred size (transferred_at p (velocity_at d x.n) x)
-    go Passed = e
-    go (Failed f) = tt
+    go : (p : Result Unit Entry) → OwnTransferred size (transferred_at p (velocity_at d x.n) x)
+    go (Ok tt) = e
+    go (Err f) = tt
 moved-own d size O.TooLong e = tt
 moved-own d size O.TooShort e = tt
 moved-own d size (O.NotFinished b) e = tt

@@ -1,21 +1,20 @@
 -- The number of what the bracket that a solve's trials end on comes to: 29 where a trial is left; else 0 or 9 for two times, by row 9; 7 where
 -- the upper neighbour has none; and what is given for a lower one without. Assumes nothing.
+use Rattle.refusal.specs.Refusals.{number_of}
+use Rattle.std.specs.Prelude.{Err, Ok, Result}
+use Rattle.table.specs.declared.Entry.{Entry}
 use Prim.Native.Nat.{ℕ}
 use mathlib.Core.Path.{◌≡◌, refl}
 use mathlib.Core.Bool.{Bool, true, false, cond}
 use lib.Ieee.{Float}
 use Rattle.vector.specs.declared.Vector.{Vector}
 use Rattle.vector.specs.declared.State.{State}
-use Rattle.table.specs.declared.Test.{Test}
-use Rattle.table.specs.declared.Test.TheVariants.{Passed, Failed}
 use Rattle.table.specs.Tests.{first_failing, test_number}
 use Rattle.iterator.specs.Run.{more}
 use Rattle.iterator.specs.declared.Judgement.{Judgement}
 use Rattle.iterator.specs.declared.Judgement.TheVariants.{Low, High, Under, Over}
 use Rattle.iterator.specs.declared.Bracket.{Bracket}
 use Rattle.kepler.specs.declared.Motion.{Motion}
-use Rattle.kepler.specs.declared.Arrival.{Arrival}
-use Rattle.kepler.specs.declared.Arrival.TheVariants.{InRange, OutOfRange}
 use Rattle.kepler.specs.Kepler.{turns_of, arrival_of}
 use Rattle.lambert.specs.declared.Transfer.{Transfer}
 use Rattle.lambert.specs.Lambert.{velocity_at, result_row}
@@ -24,9 +23,9 @@ use Rattle.solve.specs.declared.Solution.{Solution}
 use Rattle.solve.specs.declared.Outcome.TheVariants as O
 use Rattle.trials.specs.declared.Ended.TheVariants as E
 
-abbrev pub arrival_number : Arrival → ℕ
-arrival_number (InRange s) = 0
-arrival_number (OutOfRange e) = e.number
+abbrev pub arrival_number : Result State Entry → ℕ
+arrival_number (Ok s) = 0
+arrival_number (Err e) = number_of e.refusal
 
 abbrev pub end_number : ℕ → ℕ → Judgement → Judgement → ℕ
 end_number short nine (Low t) (High u) = nine
@@ -37,15 +36,15 @@ end_number short nine (High t) above = short
 end_number short nine Under above = short
 end_number short nine Over above = short
 
-found : (t : Float) (w : ℕ) (x : Solution) (r : Arrival) → advanced_number (advanced_at t w x r) ≡ arrival_number r
+found : (t : Float) (w : ℕ) (x : Solution) (r : Result State Entry) → advanced_number (advanced_at t w x r) ≡ arrival_number r
 unfolding advanced_number advanced_at
-found t w x (InRange s) = refl
-found t w x (OutOfRange e) = refl
+found t w x (Ok s) = refl
+found t w x (Err e) = refl
 
-moved : (r : Test) (v : Vector) (x : Solution) → transferred_number (transferred_at r v x) ≡ test_number r
+moved : (r : Result Unit Entry) (v : Vector) (x : Solution) → transferred_number (transferred_at r v x) ≡ test_number r
 unfolding transferred_number transferred_at test_number
-moved Passed v x = refl
-moved (Failed e) v x = refl
+moved (Ok tt) v x = refl
+moved (Err e) v x = refl
 
 module _ (m : Motion) (from : State) (t size asked : Float) (w : ℕ) (b : Bracket) where
   abbrev nine : ℕ

@@ -1,4 +1,7 @@
 -- The transfer under a limit: what holds of the advance, with 52 for 74. Assumes nothing.
+use Rattle.table.specs.declared.Entry.{Entry}
+use Rattle.std.specs.Prelude.{Err, Ok, Result}
+use Rattle.reason.specs.declared.Amiss.{Amiss}
 use Prim.Native.Nat.{ℕ, ◌≤◌}
 use native.Mathlib.Omega.{arith}
 use native.Mathlib.Nat.{le_of_lt}
@@ -9,8 +12,6 @@ use lib.Dec.{ltb, lit≤}
 use lib.Ieee.{Float}
 use Rattle.facts.proofs.Wholes.{zero_one}
 use Rattle.vector.specs.declared.Vector.{Vector}
-use Rattle.table.specs.declared.Test.{Test}
-use Rattle.table.specs.declared.Test.TheVariants.{Passed, Failed}
 use Rattle.table.specs.Tests.{first_failing, all_meet, passes}
 use Rattle.table.proofs.Laws.{one-row}
 use Rattle.iterator.specs.declared.Bracket.{Bracket}
@@ -29,8 +30,6 @@ use Rattle.solve.specs.declared.Outcome.{Outcome}
 use Rattle.solve.specs.declared.Outcome.TheVariants as O
 use Rattle.iterator.specs.declared.Beginning.{Beginning}
 use Rattle.iterator.specs.declared.Beginning.TheVariants.{Start, Stopped}
-use Rattle.trials.specs.declared.Begun.{Begun}
-use Rattle.trials.specs.declared.Begun.TheVariants as B
 use Rattle.solve.specs.declared.Transferred.{Transferred}
 use Rattle.solve.specs.declared.Transferred.TheVariants as Tr
 use Rattle.solve.proofs.Parts.{lambert-start, lambert-whole, lambert-among}
@@ -39,10 +38,10 @@ use Rattle.solve.proofs.Beginnings.{stopped-finite, stopped-begins}
 use Rattle.solve.proofs.Numbers.{moved-number}
 use Rattle.solve.proofs.Limited.{not-six, outcome-free, outcome-raised, outcome-goes-on, handed, never-stopped}
 
-moved_by : (r : Test) (v : Vector) (x : Solution) (b : Bracket) → transferred_at r v x ≡ Tr.NotFinished b → ⊥
+moved_by : (r : Result Unit Entry) (v : Vector) (x : Solution) (b : Bracket) → transferred_at r v x ≡ Tr.NotFinished b → ⊥
 unfolding transferred_at
-moved_by Passed v x b e = let z : ◌≡◌ {A = ℕ} 0 1 = cc in zero_one z
-moved_by (Failed f) v x b e = let z : ◌≡◌ {A = ℕ} 0 1 = cc in zero_one z
+moved_by (Ok tt) v x b e = let z : ◌≡◌ {A = ℕ} 0 1 = cc in zero_one z
+moved_by (Err f) v x b e = let z : ◌≡◌ {A = ℕ} 0 1 = cc in zero_one z
 
 moved_at : (d : Transfer) (b : Bracket) (o : Outcome) → transferred_as d o ≡ Tr.NotFinished b → o ≡ O.NotFinished b
 unfolding transferred_as
@@ -67,40 +66,40 @@ module _ (mu : Float) (first second : Vector) (way : Way) (t : Float) where
   abbrev start : Bracket
   start = start_of (Lambert d)
 
-  abbrev ahead : Beginning → Test
+  abbrev ahead : Beginning → Result Unit Entry
   ahead g = first_failing (lambert_ahead mu first second way t d g)
 
-  abbrev by : Test → Begun → ℕ → Transferred
-  by p v limit = transferred_end (ended_from p v Passed (Lambert d) t limit) d t
+  abbrev by : Result Unit Entry → Result Bracket Amiss → ℕ → Transferred
+  by p v limit = transferred_end (ended_from p v (Ok tt) (Lambert d) t limit) d t
 
   abbrev ended : ℕ → Bracket → Transferred
   ended limit b = transferred_as d (outcome_to (Lambert d) t t limit b)
 
   pub transfer-free : (limit : ℕ) → 52 ≤ limit → transfer_velocity_to mu first second way t limit Start ≡ transfer_velocity_of mu first second way t
   unfolding transferred_end ended_from transferred_by begun_of
-  transfer-free limit k = ap (λ (p : Test). by p (B.At start) limit) (lambert-start mu first second way t d) ∙ go (first_failing (lambert_tests mu first second way t d))
+  transfer-free limit k = ap (λ (p : Result Unit Entry). by p (Ok start) limit) (lambert-start mu first second way t d) ∙ go (first_failing (lambert_tests mu first second way t d))
     where
-      go : (p : Test) → by p (B.At start) limit ≡ transferred_by p d t
-      go (Failed f) = refl
-      go Passed = ap (transferred_as d) (outcome-free (Lambert d) t t limit k)
+      go : (p : Result Unit Entry) → by p (Ok start) limit ≡ transferred_by p d t
+      go (Err f) = refl
+      go (Ok tt) = ap (transferred_as d) (outcome-free (Lambert d) t t limit k)
 
   pub transfer-never : (limit : ℕ) (b : Bracket) → 52 ≤ limit → transfer_velocity_to mu first second way t limit Start ≡ Tr.NotFinished b → ⊥
   unfolding transferred_by
   transfer-never limit b k e = go (first_failing (lambert_tests mu first second way t d)) (sym (transfer-free limit k) ∙ e)
     where
-      go : (p : Test) → transferred_by p d t ≡ Tr.NotFinished b → ⊥
-      go Passed e = never-stopped (Lambert d) t t b (moved_at d b _ e)
-      go (Failed f) e = let z : ◌≡◌ {A = ℕ} 0 1 = cc in zero_one z
+      go : (p : Result Unit Entry) → transferred_by p d t ≡ Tr.NotFinished b → ⊥
+      go (Ok tt) e = never-stopped (Lambert d) t t b (moved_at d b _ e)
+      go (Err f) e = let z : ◌≡◌ {A = ℕ} 0 1 = cc in zero_one z
 
   pub transfer-raised : (l n : ℕ) (g : Beginning) → l ≤ n → (transferred_number (transfer_velocity_to mu first second way t l g) ≡ 29 → ⊥)
       → transfer_velocity_to mu first second way t n g ≡ transfer_velocity_to mu first second way t l g
   unfolding transferred_end ended_from transferred_number transferred_as
   transfer-raised l n g k h = go (ahead g) (begun_of (Lambert d) t g) h
     where
-      go : (p : Test) (v : Begun) → (transferred_number (by p v l) ≡ 29 → ⊥) → by p v n ≡ by p v l
-      go (Failed f) v h = refl
-      go Passed (B.Wrong a) h = refl
-      go Passed (B.At b) h = ap (transferred_as d) (outcome-raised (Lambert d) t t l n b k (λ c e. h (ap (λ (o : Outcome). transferred_number (transferred_as d o)) e)))
+      go : (p : Result Unit Entry) (v : Result Bracket Amiss) → (transferred_number (by p v l) ≡ 29 → ⊥) → by p v n ≡ by p v l
+      go (Err f) v h = refl
+      go (Ok tt) (Err a) h = refl
+      go (Ok tt) (Ok b) h = ap (transferred_as d) (outcome-raised (Lambert d) t t l n b k (λ c e. h (ap (λ (o : Outcome). transferred_number (transferred_as d o)) e)))
 
   pub transfer-finished : (l : ℕ) → (transferred_number (transfer_velocity_to mu first second way t l Start) ≡ 29 → ⊥)
       → transfer_velocity_to mu first second way t l Start ≡ transfer_velocity_of mu first second way t
@@ -112,17 +111,17 @@ module _ (mu : Float) (first second : Vector) (way : Way) (t : Float) where
 
   record Handed (l : ℕ) (b : Bracket) : Type 0 where
     stopped : stopped_of (Lambert d) t l start ≡ b
-    tested : ahead Start ≡ Passed
-    again : ahead (Stopped b) ≡ Passed
-    begins : begun_of (Lambert d) t (Stopped b) ≡ B.At b
+    tested : ahead Start ≡ Ok tt
+    again : ahead (Stopped b) ≡ Ok tt
+    begins : begun_of (Lambert d) t (Stopped b) ≡ Ok b
 
   handed_out : (l : ℕ) (b : Bracket) → transfer_velocity_to mu first second way t l Start ≡ Tr.NotFinished b → Handed l b
   unfolding transferred_end ended_from begun_of
   handed_out l b e = go (ahead Start) refl e
     where
-      go : (p : Test) → ahead Start ≡ p → by p (B.At start) l ≡ Tr.NotFinished b → Handed l b
-      go (Failed f) i e = let z : ◌≡◌ {A = ℕ} 0 1 = cc in absurd (zero_one z)
-      go Passed i e =
+      go : (p : Result Unit Entry) → ahead Start ≡ p → by p (Ok start) l ≡ Tr.NotFinished b → Handed l b
+      go (Err f) i e = let z : ◌≡◌ {A = ℕ} 0 1 = cc in absurd (zero_one z)
+      go (Ok tt) i e =
           let w = lambert-whole mu first second way t d Start i in
           let a = lambert-asked mu first second way t d w in
           let c = handed t t (stopped_of (Lambert d) t l start) b (moved_at d b _ e) in
@@ -130,14 +129,14 @@ module _ (mu : Float) (first second : Vector) (way : Way) (t : Float) where
             stopped = c;
             tested = i;
             again = lambert-among mu first second way t d (Stopped b) (subst (λ (r : Bracket). all_meet (times_input (Stopped r)) ≡ true) c (stopped-finite (Lambert d) t a l)) w;
-            begins = subst (λ (r : Bracket). begun_of (Lambert d) t (Stopped r) ≡ B.At r) c (stopped-begins (Lambert d) t a l);
+            begins = subst (λ (r : Bracket). begun_of (Lambert d) t (Stopped r) ≡ Ok r) c (stopped-begins (Lambert d) t a l);
           }
 
   pub transfer-taken-up : (l n : ℕ) (b : Bracket) → transfer_velocity_to mu first second way t l Start ≡ Tr.NotFinished b → transfer_velocity_to mu first second way t n (Stopped b) ≡ ended n b
   unfolding transferred_end ended_from
   transfer-taken-up l n b e =
       let h = handed_out l b e in
-      ap (λ (p : Test). by p (begun_of (Lambert d) t (Stopped b)) n) h.again ∙ ap (λ (v : Begun). by Passed v n) h.begins
+      ap (λ (p : Result Unit Entry). by p (begun_of (Lambert d) t (Stopped b)) n) h.again ∙ ap (λ (v : Result Bracket Amiss). by (Ok tt) v n) h.begins
 
   pub transfer-not-six : (l n : ℕ) (b : Bracket) → transfer_velocity_to mu first second way t l Start ≡ Tr.NotFinished b
       → transferred_number (transfer_velocity_to mu first second way t n (Stopped b)) ≡ 6 → ⊥
@@ -151,4 +150,4 @@ module _ (mu : Float) (first second : Vector) (way : Way) (t : Float) where
       transfer-taken-up l n b e
       ∙ ap (ended n) (sym h.stopped)
       ∙ ap (transferred_as d) (outcome-goes-on (Lambert d) t t l n start k)
-      ∙ sym (ap (λ (p : Test). by p (B.At start) n) h.tested)
+      ∙ sym (ap (λ (p : Result Unit Entry). by p (Ok start) n) h.tested)

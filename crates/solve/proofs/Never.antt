@@ -1,12 +1,13 @@
 -- Kepler's lower neighbour always has a time: the lower end starts low, and Kepler's judge never says under. Assumes nothing.
+use Rattle.std.specs.Prelude.{Err, Ok, Result}
+use Rattle.table.specs.declared.Entry.{Entry}
+use Rattle.conic.specs.declared.Point.{Point}
 use mathlib.Core.Path.{◌≡◌, refl, sym, subst}
 use mathlib.Core.Bool.{Bool, true, false, cond, true≢false}
 use lib.IntN.{ℤ}
 use lib.Signed.{lt_z}
 use lib.Ieee.{Float}
 use Rattle.real.specs.F64.{◌≤ᶠ◌}
-use Rattle.conic.specs.declared.Trial.{Trial}
-use Rattle.conic.specs.declared.Trial.TheVariants as Trial
 use Rattle.iterator.specs.declared.Judgement.{Judgement}
 use Rattle.iterator.specs.declared.Judgement.TheVariants.{Low, High, Under, Over}
 use Rattle.iterator.specs.Judged.{in_time, judged_of}
@@ -24,10 +25,10 @@ NotUnder (High t) = Prim.Unit
 NotUnder Under = ⊥
 NotUnder Over = Prim.Unit
 
-trial-not-under : (asked : Float) (r : Trial) → NotUnder (judged_trial asked r)
+trial-not-under : (asked : Float) (r : Result Point Entry) → NotUnder (judged_trial asked r)
 unfolding judged_trial judged_of
-trial-not-under asked (Trial.Stopped e) = tt
-trial-not-under asked (Trial.Numbers p) = go (in_time p.t) (p.t ≤ᶠ asked)
+trial-not-under asked (Err e) = tt
+trial-not-under asked (Ok p) = go (in_time p.t) (p.t ≤ᶠ asked)
   where
     go : (a b : Bool) → NotUnder (cond a (cond b (Low p.t) (High p.t)) Over)
     go true true = tt

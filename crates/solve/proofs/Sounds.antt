@@ -1,4 +1,7 @@
 -- The bracket that a solve's trials end on is sound. Assumes nothing.
+use Rattle.table.specs.declared.Entry.{Entry}
+use Rattle.std.specs.Prelude.{Err, Ok, Result}
+use Rattle.reason.specs.declared.Amiss.{Amiss}
 use Prim.Native.Nat.{ℕ}
 use mathlib.Core.Path.{◌≡◌, refl, subst}
 use mathlib.Core.Bool.{true}
@@ -6,8 +9,6 @@ use lib.Ieee.{Float}
 use Rattle.facts.proofs.Wholes.{zero_one}
 use Rattle.vector.specs.declared.Vector.{Vector}
 use Rattle.vector.specs.declared.State.{State}
-use Rattle.table.specs.declared.Test.{Test}
-use Rattle.table.specs.declared.Test.TheVariants.{Passed, Failed}
 use Rattle.table.specs.Tests.{first_failing}
 use Rattle.iterator.specs.Single.{sound_of}
 use Rattle.iterator.specs.declared.Bracket.{Bracket}
@@ -23,8 +24,6 @@ use Rattle.problem.proofs.Told.{told}
 use Rattle.trials.specs.Ended.{begun_of, ended_from}
 use Rattle.solve.specs.Ahead.{kepler_ahead, lambert_ahead}
 use Rattle.solve.specs.Ends.{motion_for, turns_for, kepler_ended, lambert_ended}
-use Rattle.trials.specs.declared.Begun.{Begun}
-use Rattle.trials.specs.declared.Begun.TheVariants as B
 use Rattle.trials.specs.declared.Ended.TheVariants as E
 use Rattle.solve.proofs.Parts.{kepler-whole, lambert-whole}
 use Rattle.solve.proofs.Asked.{rest-asked, lambert-asked}
@@ -44,12 +43,12 @@ unfolding ended_from
 kepler-sound mu s t limit g b e =
     go (first_failing (kepler_ahead mu s t (motion_for mu s t) g)) (begun_of (Kepler (motion_for mu s t)) (turns_for mu s t).rest g) (first_failing (fall_row mu s (motion_for mu s t).orbit.r1)) refl refl refl e
   where
-    go : (p : Test) (v : Begun) (q : Test) → first_failing (kepler_ahead mu s t (motion_for mu s t) g) ≡ p → begun_of (Kepler (motion_for mu s t)) (turns_for mu s t).rest g ≡ v
+    go : (p : Result Unit Entry) (v : Result Bracket Amiss) (q : Result Unit Entry) → first_failing (kepler_ahead mu s t (motion_for mu s t) g) ≡ p → begun_of (Kepler (motion_for mu s t)) (turns_for mu s t).rest g ≡ v
         → first_failing (fall_row mu s (motion_for mu s t).orbit.r1) ≡ q → ended_from p v q (Kepler (motion_for mu s t)) (turns_for mu s t).rest limit ≡ E.At b → IsSound (turns_for mu s t).rest b
-    go (Failed f) v q i j k e = let z : ◌≡◌ {A = ℕ} 0 1 = cc in absurd (zero_one z)
-    go Passed (B.Wrong a) q i j k e = let z : ◌≡◌ {A = ℕ} 0 1 = cc in absurd (zero_one z)
-    go Passed (B.At c) (Failed f) i j k e = let z : ◌≡◌ {A = ℕ} 0 1 = cc in absurd (zero_one z)
-    go Passed (B.At c) Passed i j k e =
+    go (Err f) v q i j k e = let z : ◌≡◌ {A = ℕ} 0 1 = cc in absurd (zero_one z)
+    go (Ok tt) (Err a) q i j k e = let z : ◌≡◌ {A = ℕ} 0 1 = cc in absurd (zero_one z)
+    go (Ok tt) (Ok c) (Err f) i j k e = let z : ◌≡◌ {A = ℕ} 0 1 = cc in absurd (zero_one z)
+    go (Ok u) (Ok c) (Ok tt) i j k e =
         gone-on (Kepler (motion_for mu s t)) (turns_for mu s t).rest limit c b
         (begun-sound (Kepler (motion_for mu s t)) (turns_for mu s t).rest (rest-asked mu s t (kepler-whole mu s t (motion_for mu s t) g i k)) g c j) e
 
@@ -58,10 +57,10 @@ unfolding ended_from
 lambert-sound mu first second way t limit g b e =
     go (first_failing (lambert_ahead mu first second way t (transfer_of mu first second way) g)) (begun_of (Lambert (transfer_of mu first second way)) t g) refl refl e
   where
-    go : (p : Test) (v : Begun) → first_failing (lambert_ahead mu first second way t (transfer_of mu first second way) g) ≡ p → begun_of (Lambert (transfer_of mu first second way)) t g ≡ v
-        → ended_from p v Passed (Lambert (transfer_of mu first second way)) t limit ≡ E.At b → IsSound t b
-    go (Failed f) v i j e = let z : ◌≡◌ {A = ℕ} 0 1 = cc in absurd (zero_one z)
-    go Passed (B.Wrong a) i j e = let z : ◌≡◌ {A = ℕ} 0 1 = cc in absurd (zero_one z)
-    go Passed (B.At c) i j e =
+    go : (p : Result Unit Entry) (v : Result Bracket Amiss) → first_failing (lambert_ahead mu first second way t (transfer_of mu first second way) g) ≡ p → begun_of (Lambert (transfer_of mu first second way)) t g ≡ v
+        → ended_from p v (Ok tt) (Lambert (transfer_of mu first second way)) t limit ≡ E.At b → IsSound t b
+    go (Err f) v i j e = let z : ◌≡◌ {A = ℕ} 0 1 = cc in absurd (zero_one z)
+    go (Ok tt) (Err a) i j e = let z : ◌≡◌ {A = ℕ} 0 1 = cc in absurd (zero_one z)
+    go (Ok tt) (Ok c) i j e =
         gone-on (Lambert (transfer_of mu first second way)) t limit c b
         (begun-sound (Lambert (transfer_of mu first second way)) t (lambert-asked mu first second way t (transfer_of mu first second way) (lambert-whole mu first second way t (transfer_of mu first second way) g i)) g c j) e

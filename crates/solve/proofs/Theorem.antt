@@ -1,6 +1,8 @@
 -- Demand 3, one theorem a solve: an orbit, or a velocity, is handed out exactly when the computed times of the neighbours that the
 -- trials end on stand on either side of the time asked for and the result is in range; the count is that of the rule's own trials,
 -- at most 2b. Assumes nothing.
+use Rattle.std.specs.Prelude.{Err, Ok, Result}
+use Rattle.table.specs.declared.Entry.{Entry}
 use Prim.Native.Nat.{ℕ, ◌≤◌}
 use mathlib.Core.Path.{◌≡◌, refl, sym, ap, ◌∙◌}
 use mathlib.Core.Bool.{Bool, true, false, cond, true≢false}
@@ -12,11 +14,8 @@ use Rattle.facts.proofs.Wholes.{zero_one}
 use Rattle.real.specs.F64.{◌≤ᶠ◌, ◌<ᶠ◌, size_of}
 use Rattle.vector.specs.declared.Vector.{Vector}
 use Rattle.vector.specs.declared.State.{State}
-use Rattle.table.specs.declared.Test.TheVariants.{Passed}
 use Rattle.table.specs.Tests.{first_failing}
 use Rattle.conic.specs.declared.Point.{Point}
-use Rattle.conic.specs.declared.Trial.{Trial}
-use Rattle.conic.specs.declared.Trial.TheVariants as T
 use Rattle.reach.specs.declared.Reached.{Reached}
 use Rattle.reach.specs.declared.Reached.TheVariants as R
 use Rattle.iterator.specs.declared.Judgement.{Judgement}
@@ -55,9 +54,9 @@ judged-carries asked t = go (in_time t) (t ≤ᶠ asked)
 judge-carries : (problem : Problem) (asked : Float) (n : ℤ) → carried_by (judge_of problem asked n) ≡ time_inside problem n
 judge-carries (Kepler m) asked n = by-trial _
   where
-    by-trial : (r : Trial) → carried_by (judged_trial asked r) ≡ timed_trial r
-    by-trial (T.Numbers p) = unfold judged_trial timed_trial in judged-carries asked p.t
-    by-trial (T.Stopped e) = unfold judged_trial timed_trial in refl
+    by-trial : (r : Result Point Entry) → carried_by (judged_trial asked r) ≡ timed_trial r
+    by-trial (Ok p) = unfold judged_trial timed_trial in judged-carries asked p.t
+    by-trial (Err e) = unfold judged_trial timed_trial in refl
 judge-carries (Lambert d) asked n = by-reach _
   where
     by-reach : (r : Reached) → carried_by (judged_reach asked r) ≡ timed_reach r
@@ -149,13 +148,13 @@ module _ (problem : Problem) (size asked : Float) (a : Asked asked) (x : Solutio
 pub record Flown (mu : Float) (s : State) (t : Float) (z : State) (x : Solution) (turns : ℕ) : Type 0 where
   pub sides : Sides (Kepler (motion_for mu s t)) (size_of t) (turns_for mu s t).rest x
   pub point : Point
-  pub numbers : trial_at (motion_for mu s t) x.n ≡ T.Numbers point
+  pub numbers : trial_at (motion_for mu s t) x.n ≡ Ok point
   pub time : point.t ≡ x.t
-  pub in-range : row_at (motion_for mu s t).orbit (turned_of t s) point ≡ Passed
+  pub in-range : row_at (motion_for mu s t).orbit (turned_of t s) point ≡ Ok tt
   pub turned : z ≡ turned_of t (state_at (motion_for mu s t).orbit (turned_of t s) point)
   pub taken-off : turns ≡ (turns_for mu s t).turns
 
-pub advance-theorem : (mu : Float) (s : State) (t : Float) → first_failing (kepler_tests mu s t (motion_for mu s t)) ≡ Passed → (z : State) (x : Solution) (turns : ℕ)
+pub advance-theorem : (mu : Float) (s : State) (t : Float) → first_failing (kepler_tests mu s t (motion_for mu s t)) ≡ Ok tt → (z : State) (x : Solution) (turns : ℕ)
     → (advance_of mu s t ≡ Ad.Found z x turns → Flown mu s t z x turns) × (Flown mu s t z x turns → advance_of mu s t ≡ Ad.Found z x turns)
 advance-theorem mu s t passed z x turns =
     let p = Kepler (motion_for mu s t) in
@@ -174,9 +173,9 @@ advance-theorem mu s t passed z x turns =
 pub record Sent (mu : Float) (first second : Vector) (way : Way) (t : Float) (v : Vector) (x : Solution) : Type 0 where
   pub sides : Sides (Lambert (transfer_of mu first second way)) t t x
   pub velocity : v ≡ velocity_at (transfer_of mu first second way) x.n
-  pub in-range : first_failing (result_row v) ≡ Passed
+  pub in-range : first_failing (result_row v) ≡ Ok tt
 
-pub transfer-theorem : (mu : Float) (first second : Vector) (way : Way) (t : Float) → first_failing (lambert_tests mu first second way t (transfer_of mu first second way)) ≡ Passed
+pub transfer-theorem : (mu : Float) (first second : Vector) (way : Way) (t : Float) → first_failing (lambert_tests mu first second way t (transfer_of mu first second way)) ≡ Ok tt
     → (v : Vector) (x : Solution)
     → (transfer_velocity_of mu first second way t ≡ Tr.Found v x → Sent mu first second way t v x) × (Sent mu first second way t v x → transfer_velocity_of mu first second way t ≡ Tr.Found v x)
 transfer-theorem mu first second way t passed v x =

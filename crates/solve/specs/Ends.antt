@@ -1,9 +1,8 @@
 -- Where a solve's trials end: its tests, then the trials under a limit on the count. Assumes nothing: these are definitions.
-use Rattle.std.specs.Prelude.{ℕ, Float}
+use Rattle.std.specs.Prelude.{ℕ, Float, Ok}
 use Rattle.real.specs.F64.{size_of}
 use Rattle.vector.specs.declared.Vector.{Vector}
 use Rattle.vector.specs.declared.State.{State}
-use Rattle.table.specs.declared.Test.TheVariants.{Passed}
 use Rattle.table.specs.Tests.{first_failing}
 use Rattle.iterator.specs.declared.Beginning.{Beginning}
 use Rattle.kepler.specs.declared.Motion.{Motion}
@@ -37,5 +36,5 @@ lambert_ended mu first second way t limit g =
     ended_from
     (first_failing (lambert_ahead mu first second way t (transfer_of mu first second way) g))
     (begun_of (Lambert (transfer_of mu first second way)) t g)
-    Passed
+    (Ok tt)
     (Lambert (transfer_of mu first second way)) t limit

@@ -1,8 +1,8 @@
 -- The computed time of a grid point, or none: it does not know the time asked for (01, 'Judging a trial'). Assumes nothing: these are definitions.
-use Rattle.std.specs.Prelude.{cond, ℤ, Float}
+use Rattle.table.specs.declared.Entry.{Entry}
+use Rattle.conic.specs.declared.Point.{Point}
+use Rattle.std.specs.Prelude.{cond, ℤ, Float, Err, Ok, Result}
 use Rattle.std.specs.Int.Signed.{lt_z}
-use Rattle.conic.specs.declared.Trial.{Trial}
-use Rattle.conic.specs.declared.Trial.TheVariants as T
 use Rattle.conic.specs.Conic.{grid_of}
 use Rattle.reach.specs.declared.Reached.{Reached}
 use Rattle.reach.specs.declared.Reached.TheVariants as R
@@ -27,9 +27,9 @@ carried_by Under = none
 carried_by Over = none
 
 -- a time counts within −2^28..2^28
-unfoldable pub timed_trial : Trial → Computed
-timed_trial (T.Numbers p) = cond (in_time p.t) (time p.t) none
-timed_trial (T.Stopped e) = none
+unfoldable pub timed_trial : Result Point Entry → Computed
+timed_trial (Ok p) = cond (in_time p.t) (time p.t) none
+timed_trial (Err e) = none
 
 unfoldable pub timed_reach : Reached → Computed
 timed_reach (R.Time t) = cond (in_time t) (time t) none

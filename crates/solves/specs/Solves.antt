@@ -1,5 +1,5 @@
 -- What a solve's line holds behind its name: a form for each, whatever is asked of the solve. Assumes nothing: these are definitions.
-use Rattle.std.specs.Prelude.{ℕ, ◌≡◌, List, Float}
+use Rattle.std.specs.Prelude.{ℕ, ◌≡◌, List, Float, Err, Ok, Result}
 use Rattle.text.specs.Text.{ascii}
 use Rattle.vector.specs.declared.Vector.{Vector}
 use Rattle.vector.specs.declared.State.{State}
@@ -7,15 +7,10 @@ use Rattle.vector.specs.Vectors.{state_of}
 use Rattle.lambert.specs.declared.Way.{Way}
 use Rattle.lambert.specs.declared.Way.TheVariants.{Short, Long, Normal}
 use Rattle.forms.specs.declared.Request.{Request}
-use Rattle.forms.specs.declared.Request.TheVariants.{Unread}
 use Rattle.forms.specs.declared.Solve.{Solve}
 use Rattle.forms.specs.declared.Solve.TheVariants.{Kepler, Lambert, Theta, Apsides}
 use Rattle.forms.specs.Forms.{Form, end, number, word, none, read_by}
 use Rattle.options.specs.Options.{options}
-use Rattle.solves.specs.declared.Round.{Round}
-use Rattle.solves.specs.declared.Round.TheVariants as R
-use Rattle.solves.specs.declared.Given.{Given}
-use Rattle.solves.specs.declared.Given.TheVariants as G
 
 -- ---- parts
 
@@ -56,19 +51,19 @@ solve_form ask =
 
 -- ---- what was read says what the line asks, whatever is asked of the solve
 
-abbrev pub asked : Given → (Solve → Request) → Request
-asked (G.Read x) ask = ask x
-asked (G.Unread w) ask = Unread w
+abbrev pub asked : Result Solve ℕ → (Solve → Request) → Result Request ℕ
+asked (Ok x) ask = Ok (ask x)
+asked (Err w) ask = Err w
 
-abbrev pub Gives : ((Solve → Request) → Form) → Given → ℕ → List ℕ → Type 0
+abbrev pub Gives : ((Solve → Request) → Form) → Result Solve ℕ → ℕ → List ℕ → Type 0
 Gives form r k line = (ask : Solve → Request) → read_by (form ask) k line ≡ asked r ask
 
-abbrev pub behind_way : Round → (Way → Form) → List ℕ → Request
-behind_way (R.Read w k) go line = read_by (go w) k line
-behind_way (R.Unread k) go line = Unread k
+abbrev pub behind_way : Result (Way × ℕ) ℕ → (Way → Form) → List ℕ → Result Request ℕ
+behind_way (Ok (w, k)) go line = read_by (go w) k line
+behind_way (Err k) go line = Err k
 
-abbrev pub ReadsNormal : Round → ℕ → List ℕ → Type 0
+abbrev pub ReadsNormal : Result (Way × ℕ) ℕ → ℕ → List ℕ → Type 0
 ReadsNormal r k line = (go : Way → Form) → read_by (vector λ n. go (Normal n)) k line ≡ behind_way r go line
 
-abbrev pub ReadsWay : Round → ℕ → List ℕ → Type 0
+abbrev pub ReadsWay : Result (Way × ℕ) ℕ → ℕ → List ℕ → Type 0
 ReadsWay r k line = (go : Way → Form) → read_by (way go) k line ≡ behind_way r go line

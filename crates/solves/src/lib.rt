@@ -7,174 +7,128 @@ ghost use Rattle.solves.specs.Solves.{kepler_form, lambert_form, theta_form, aps
 
 use forms::Solve;
 use lambert::Way;
-use options::Options;
 use vector::{State, Vector};
 
-// What a solve is given, or the number of the first word that cannot be read.
-#[derive(Clone, Copy)]
-pub enum Given {
-    Read(Solve),
-    Unread(u64),
-}
-
-// The way round and how many words of the line it ends, or the number of the first word that cannot be read.
-#[derive(Clone, Copy)]
-enum Round {
-    Read(Way, u32),
-    Unread(u64),
-}
-
 // The three numbers of a normal.
-fn normal_at(line: &[u8], k: u32) -> Round
+fn normal_at(line: &[u8], k: u32) -> Result<(Way, u32), u64>
     requires { k < 2 ^ 18 }
     ensures { ReadsNormal result k line.now }
 {
-    let mut n = [0.0; 3];
-    let w = forms::numbers(line, k, &mut n);
-    if w != 0 {
-        return Round::Unread(w);
-    }
-    Round::Read(
-        Way::Normal(Vector {
-            x: n[0],
-            y: n[1],
-            z: n[2],
-        }),
-        k + 3,
-    )
+    let [x, y, z] = forms::numbers::<3>(line, k)?;
+    Ok((Way::Normal(Vector { x, y, z }), k + 3))
 }
 
-fn way_at(line: &[u8], k: u32) -> Round
+#[tactic(auto, unfolding(forms::specs::Forms::read_by))]
+fn way_at(line: &[u8], k: u32) -> Result<(Way, u32), u64>
     requires { k < 2 ^ 17 }
     ensures { ReadsWay result k line.now }
 {
-    let w = words::word(line, k as u64);
+    let w = words::word(line, u64::from(k));
     if words::is_word(w, b"short") {
-        return Round::Read(Way::Short, k + 1);
+        return Ok((Way::Short, k + 1));
     }
     if words::is_word(w, b"long") {
-        return Round::Read(Way::Long, k + 1);
+        return Ok((Way::Long, k + 1));
     }
     if words::is_word(w, b"normal") {
         return normal_at(line, k + 1);
     }
-    Round::Unread(k as u64 + 1)
+    Err(u64::from(k) + 1)
 }
 
-fn kepler(line: &[u8], k: u32) -> Given
+fn kepler(line: &[u8], k: u32) -> Result<Solve, u64>
     requires { k ≤ 65536 }
     ensures { Gives kepler_form result k line.now }
 {
-    let mut x = [0.0; 8];
-    let w = forms::numbers(line, k, &mut x);
-    if w != 0 {
-        return Given::Unread(w);
-    }
-    match options::read(line, k + 8) {
-        Options::Read(beginning, limit, version) => Given::Read(Solve::Kepler {
-            mu: x[0],
-            state: State {
-                rx: x[1],
-                ry: x[2],
-                rz: x[3],
-                vx: x[4],
-                vy: x[5],
-                vz: x[6],
-            },
-            time: x[7],
-            beginning,
-            limit,
-            version,
-        }),
-        Options::Unread(j) => Given::Unread(j),
-    }
-}
-
-fn lambert(line: &[u8], k: u32) -> Given
-    requires { k ≤ 65536 }
-    ensures { Gives lambert_form result k line.now }
-{
-    let mut x = [0.0; 8];
-    let w = forms::numbers(line, k, &mut x);
-    if w != 0 {
-        return Given::Unread(w);
-    }
-    match way_at(line, k + 8) {
-        Round::Read(way, behind) => match options::read(line, behind) {
-            Options::Read(beginning, limit, version) => Given::Read(Solve::Lambert {
-                mu: x[0],
-                first: Vector {
-                    x: x[1],
-                    y: x[2],
-                    z: x[3],
-                },
-                second: Vector {
-                    x: x[4],
-                    y: x[5],
-                    z: x[6],
-                },
-                time: x[7],
-                way,
-                beginning,
-                limit,
-                version,
-            }),
-            Options::Unread(j) => Given::Unread(j),
-        },
-        Round::Unread(j) => Given::Unread(j),
-    }
-}
-
-fn theta(line: &[u8], k: u32) -> Given
-    ensures { Gives theta_form result k line.now }
-{
-    let mut x = [0.0; 9];
-    let w = forms::only_numbers(line, k, &mut x);
-    if w != 0 {
-        return Given::Unread(w);
-    }
-    Given::Read(Solve::Theta {
-        mu: x[0],
+    let [mu, rx, ry, rz, vx, vy, vz, time] = forms::numbers::<8>(line, k)?;
+    let (beginning, limit, version) = options::read(line, k + 8)?;
+    Ok(Solve::Kepler {
+        mu,
         state: State {
-            rx: x[1],
-            ry: x[2],
-            rz: x[3],
-            vx: x[4],
-            vy: x[5],
-            vz: x[6],
+            rx,
+            ry,
+            rz,
+            vx,
+            vy,
+            vz,
         },
-        sine: x[7],
-        cosine: x[8],
+        time,
+        beginning,
+        limit,
+        version,
     })
 }
 
-fn apsides(line: &[u8], k: u32) -> Given
+fn lambert(line: &[u8], k: u32) -> Result<Solve, u64>
+    requires { k ≤ 65536 }
+    ensures { Gives lambert_form result k line.now }
+{
+    let [mu, ax, ay, az, bx, by, bz, time] = forms::numbers::<8>(line, k)?;
+    let (way, behind) = way_at(line, k + 8)?;
+    let (beginning, limit, version) = options::read(line, behind)?;
+    Ok(Solve::Lambert {
+        mu,
+        first: Vector {
+            x: ax,
+            y: ay,
+            z: az,
+        },
+        second: Vector {
+            x: bx,
+            y: by,
+            z: bz,
+        },
+        time,
+        way,
+        beginning,
+        limit,
+        version,
+    })
+}
+
+fn theta(line: &[u8], k: u32) -> Result<Solve, u64>
+    ensures { Gives theta_form result k line.now }
+{
+    let [mu, rx, ry, rz, vx, vy, vz, sine, cosine] = forms::only_numbers::<9>(line, k)?;
+    Ok(Solve::Theta {
+        mu,
+        state: State {
+            rx,
+            ry,
+            rz,
+            vx,
+            vy,
+            vz,
+        },
+        sine,
+        cosine,
+    })
+}
+
+fn apsides(line: &[u8], k: u32) -> Result<Solve, u64>
     ensures { Gives apsides_form result k line.now }
 {
-    let mut x = [0.0; 7];
-    let w = forms::only_numbers(line, k, &mut x);
-    if w != 0 {
-        return Given::Unread(w);
-    }
-    Given::Read(Solve::Apsides {
-        mu: x[0],
+    let [mu, rx, ry, rz, vx, vy, vz] = forms::only_numbers::<7>(line, k)?;
+    Ok(Solve::Apsides {
+        mu,
         state: State {
-            rx: x[1],
-            ry: x[2],
-            rz: x[3],
-            vx: x[4],
-            vy: x[5],
-            vz: x[6],
+            rx,
+            ry,
+            rz,
+            vx,
+            vy,
+            vz,
         },
     })
 }
 
 // The solve whose name is behind the first k words.
-pub fn read(line: &[u8], k: u16) -> Given
+#[tactic(auto, unfolding(forms::specs::Forms::read_by))]
+pub fn read(line: &[u8], k: u16) -> Result<Solve, u64>
     ensures { Gives solve_form result k line.now }
 {
-    let name = words::word(line, k as u64);
-    let behind = k as u32 + 1;
+    let name = words::word(line, u64::from(k));
+    let behind = u32::from(k) + 1;
     if words::is_word(name, b"kepler") {
         return kepler(line, behind);
     }
@@ -187,5 +141,5 @@ pub fn read(line: &[u8], k: u16) -> Given
     if words::is_word(name, b"apsides") {
         return apsides(line, behind);
     }
-    Given::Unread(behind as u64)
+    Err(u64::from(behind))
 }

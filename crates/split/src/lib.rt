@@ -18,12 +18,10 @@ pub fn next_line(room: &mut [u8], kept: usize, part: &[u8], from: usize) -> Foun
     ensures { (result ≡ found_of room.old kept from (drop from part.now)) × (room.new ≡ room_of room.old kept (drop from part.now)) }
 {
     let mut k = kept;
-    let mut i = from;
-    while i < part.len() {
+    for i in from..part.len() {
         let b = part[i];
-        i += 1;
         if b == b'\n' {
-            return Found::Line(k, i);
+            return Found::Line(k, i + 1);
         }
         if k < room.len() {
             room[k] = b;

@@ -1,4 +1,5 @@
 -- The tests of an open reader, and what they leave. Assumes nothing.
+use Rattle.refusal.specs.declared.Refusal.TheVariants as Refusal
 use Prim.Native.Nat.{ℕ, ◌+◌, ◌-◌, ◌≤◌, ◌<◌}
 use native.Mathlib.Nat.{add-zero}
 use native.Mathlib.Omega.{arith}
@@ -25,7 +26,7 @@ use Rattle.stream.proofs.Steps.{cut-eleven, front_long}
 -- a state that the tests let pass
 pub record Sound (p : Place) (k : ℕ) (d : List ℕ) : Type 0 where
   pub fits : k ≤ 61
-  pub unfinished : found_at p (take k d) ≡ D.Refused 11
+  pub unfinished : found_at p (take k d) ≡ D.Refused Refusal.CutShort
   pub allowed : offset_allowed p.offset ≡ true
 
 few : (k : ℕ) (d : List ℕ) → 62 ≤ length d → length (take k d) < 62 → (b : Bool) → ltb 61 k ≡ b → k ≤ 61
@@ -33,7 +34,7 @@ few k d h l true e = let w : ⊥ = omega (arith, front_long k d h (ltb-true 61 k
 few k d h l false e = ltb-false 61 k e
 
 module _ (p : Place) (k : ℕ) (d : List ℕ) where
-  pub sound-by : 62 ≤ length d → found_at p (take k d) ≡ D.Refused 11 → offset_allowed p.offset ≡ true → Sound p k d
+  pub sound-by : 62 ≤ length d → found_at p (take k d) ≡ D.Refused Refusal.CutShort → offset_allowed p.offset ≡ true → Sound p k d
   sound-by h e o = record { fits = few k d h (short (eqb p.at 0) (take k d) e) (ltb 61 k) refl; unfinished = e; allowed = o }
 
   pub sound : 62 ≤ length d → is_sound p (take k d) ≡ true → Sound p k d
@@ -63,21 +64,21 @@ module _ (p : Place) (k : ℕ) (d : List ℕ) where
       passed e h s = rw (count false e, le-ltb (length d) 62 h, s) refl
 
     abbrev u : Step
-    u = S.Stopped (Refused 15 p.at)
+    u = S.Stopped (Refused Refusal.NoRoom p.at)
 
     abbrev v : Step
-    v = S.Stopped (Refused 14 p.at)
+    v = S.Stopped (Refused Refusal.NotAllowed p.at)
 
     pub is-over : ltb most_bytes (p.at + k + (length part - from)) ≡ true
-        → (S.Stopped (Refused 15 p.at) ≡ step_open p k d part from) × (d ≡ room_open p k d part from)
+        → (S.Stopped (Refused Refusal.NoRoom p.at) ≡ step_open p k d part from) × (d ≡ room_open p k d part from)
     is-over e = (over u v (step_on p k d part from) e, over d d (room_on k d part from) e)
 
     pub is-small : ltb most_bytes (p.at + k + (length part - from)) ≡ false → length d < 62
-        → (S.Stopped (Refused 15 p.at) ≡ step_open p k d part from) × (d ≡ room_open p k d part from)
+        → (S.Stopped (Refused Refusal.NoRoom p.at) ≡ step_open p k d part from) × (d ≡ room_open p k d part from)
     is-small e h = (small u v (step_on p k d part from) e h, small d d (room_on k d part from) e h)
 
     pub is-unsound : ltb most_bytes (p.at + k + (length part - from)) ≡ false → 62 ≤ length d → is_sound p (take k d) ≡ false
-        → (S.Stopped (Refused 14 p.at) ≡ step_open p k d part from) × (d ≡ room_open p k d part from)
+        → (S.Stopped (Refused Refusal.NotAllowed p.at) ≡ step_open p k d part from) × (d ≡ room_open p k d part from)
     is-unsound e h s = (unsound u v (step_on p k d part from) e h s, unsound d d (room_on k d part from) e h s)
 
     pub is-passed : ltb most_bytes (p.at + k + (length part - from)) ≡ false → 62 ≤ length d → is_sound p (take k d) ≡ true
@@ -91,7 +92,7 @@ module _ (p : Place) (k : ℕ) (d : List ℕ) where
     pub is-empty : Sound p k d → 62 ≤ length d → length part ≤ from → (S.Stopped (Open p k) ≡ step_on p k d part from) × (d ≡ room_on k d part from)
     is-empty s h l =
         let e = none_left l in
-        let a : found_at p (take k d ++ []) ≡ D.Refused 11 = ap (found_at p) (append-nil (take k d)) ∙ s.unfinished in
+        let a : found_at p (take k d ++ []) ≡ D.Refused Refusal.CutShort = ap (found_at p) (append-nil (take k d)) ∙ s.unfinished in
         let z : length (take k d ++ []) ≡ k = ap length (append-nil (take k d)) ∙ length-take-le k d (omega (arith, s.fits)) in (
           ap (λ (j : ℕ). S.Stopped (Open p j)) (sym z)
               ∙ sym (ap (λ (r : List ℕ). step_in from (move_for (found_at p (take k d ++ take (62 - length (take k d)) r)) p (take k d) r)) e

@@ -1,4 +1,6 @@
 -- Wherever a stream is cut, its parts are read as the whole. Assumes nothing.
+use Rattle.refusal.specs.declared.Refusal.{Refusal}
+use Rattle.refusal.specs.Refusals.{number_of}
 use Prim.Native.Nat.{ℕ, zero, suc, ◌+◌, ◌-◌, ◌≤◌, ◌<◌, zero-le}
 use native.Mathlib.Omega.{arith}
 use mathlib.Core.Path.{◌≡◌, refl, sym, ap, ◌∙◌}
@@ -21,7 +23,7 @@ use Rattle.session.specs.Read.{start}
 use Rattle.session.proofs.Offsets.{at_offset}
 use Rattle.session.proofs.OffsetBack.{stable-at}
 use Rattle.stream.specs.Stream.{refused, Run, stop, with_reading, joined, ending_of, past, found_at, whole_from, whole_run, Reader, reading, stopped, Move, got, set, none, most_bytes, seen, move_for, move_of, feed_in, feed_of, end_of, parts_of}
-use Rattle.stream.proofs.Cut.{short, record-past, offset-past}
+use Rattle.stream.proofs.Cut.{cut_number, short, record-past, offset-past}
 use Rattle.stream.proofs.Whole.{found-fits, offset-fits, whole-record, whole-offset, whole-refused}
 
 -- what a reader is to answer yet, with s to come
@@ -31,7 +33,7 @@ left_of (stopped e) s = stop e
 
 -- what is kept is the front of an unfinished record, and the offset is allowed
 abbrev pub Kept : Reader → Type 0
-Kept (reading p kept) = (found_at p kept ≡ Refused 11) × (offset_allowed p.offset ≡ true)
+Kept (reading p kept) = (found_at p kept ≡ Refused Refusal.CutShort) × (offset_allowed p.offset ≡ true)
 Kept (stopped e) = Unit {0}
 
 -- the bytes taken so far, while it goes on
@@ -57,15 +59,15 @@ After x rest (got r q n) = Goes x rest (A.Record r q) n (reading q [])
 After x rest (set q n) = Goes x rest (A.Offset q) n (reading q [])
 After x rest (none y) = Stays x rest [] y
 
-never : (n : ℕ) → eqb n 11 ≡ false → Refused n ≡ Refused 11 → ⊥
+never : (n : Refusal) → eqb (number_of n) 11 ≡ false → Refused n ≡ Refused Refusal.CutShort → ⊥
 never n h y =
-    let e : n ≡ 11 = cc in
-    let f : true ≡ false = sym (eq-eqb n 11 e) ∙ h in
+    let e : n ≡ Refusal.CutShort = cc in
+    let f : true ≡ false = sym (eq-eqb (number_of n) 11 (ap number_of e)) ∙ h in
     let z : ◌≡◌ {A = ℕ} 0 1 = ap (λ (b : Bool). cond b 0 1) f in
     let w : ⊥ = omega arith in w
 
 -- only what is not empty is refused with another number than 11
-full : (p : Place) (s : List ℕ) (n : ℕ) → found_at p s ≡ Refused n → eqb n 11 ≡ false → ending_of s n p.at ≡ refused n p.at
+full : (p : Place) (s : List ℕ) (n : Refusal) → found_at p s ≡ Refused n → eqb (number_of n) 11 ≡ false → ending_of s n p.at ≡ refused n p.at
 full p [] n e h = absurd (never n h (sym e))
 full p (b ∷ s) n e h = refl
 
@@ -84,14 +86,14 @@ module _ (p : Place) (kept rest : List ℕ) (k : Kept (reading p kept)) where
   sizes = ap length (sym (take-append-drop (62 - length kept) rest)) ∙ length-append (take (62 - length kept) rest) (drop (62 - length kept) rest)
 
   -- what is certain stays, whatever comes
-  certain : (d : Decoded) → found_at p (seen kept rest) ≡ d → (d ≡ Refused 11 → ⊥) → (t : List ℕ) → found_at p (kept ++ (rest ++ t)) ≡ d
+  certain : (d : Decoded) → found_at p (seen kept rest) ≡ d → (d ≡ Refused Refusal.CutShort → ⊥) → (t : List ℕ) → found_at p (kept ++ (rest ++ t)) ≡ d
   certain d e z t =
       ap (found_at p) (apart t)
       ∙ stable-at (eqb p.at 0) (seen kept rest) (drop (62 - length kept) rest ++ t) (λ y. z (sym e ∙ y))
       ∙ e
 
   -- a reading of n bytes
-  on : (a : Reading) (q : Place) (n : ℕ) (d : Decoded) → found_at p (seen kept rest) ≡ d → (d ≡ Refused 11 → ⊥)
+  on : (a : Reading) (q : Place) (n : ℕ) (d : Decoded) → found_at p (seen kept rest) ≡ d → (d ≡ Refused Refusal.CutShort → ⊥)
       → length kept < n → n ≤ length (seen kept rest) → q.at ≤ p.at + n → offset_allowed q.offset ≡ true
       → ((s : List ℕ) → found_at p s ≡ d → whole_from p s ≡ with_reading a (whole_from q (drop n s)))
       → Goes (reading p kept) rest a (n - length kept) (reading q [])
@@ -125,12 +127,12 @@ module _ (p : Place) (kept rest : List ℕ) (k : Kept (reading p kept)) where
       (λ s f. whole-offset p q s i f)
 
   -- where 11 is found, all of the part was seen
-  pub all_seen : found_at p (seen kept rest) ≡ Refused 11 → take (62 - length kept) rest ≡ rest
+  pub all_seen : found_at p (seen kept rest) ≡ Refused Refusal.CutShort → take (62 - length kept) rest ≡ rest
   all_seen e =
       let l = length-append kept (take (62 - length kept) rest) in
       take_short (62 - length kept) rest (omega (arith, short (eqb p.at 0) kept k.0, short (eqb p.at 0) (seen kept rest) e, l))
 
-  waits : found_at p (seen kept rest) ≡ Refused 11 → Stays (reading p kept) rest [] (reading p (kept ++ rest))
+  waits : found_at p (seen kept rest) ≡ Refused Refusal.CutShort → Stays (reading p kept) rest [] (reading p (kept ++ rest))
   waits e =
       record {
         kept = (ap (λ (z : List ℕ). found_at p (kept ++ z)) (sym (all_seen e)) ∙ e, k.1);
@@ -138,7 +140,7 @@ module _ (p : Place) (kept rest : List ℕ) (k : Kept (reading p kept)) where
         same = λ t. ap (whole_from p) (sym (append_assoc kept rest t));
       }
 
-  stops : (n : ℕ) → found_at p (seen kept rest) ≡ Refused n → eqb n 11 ≡ false → Stays (reading p kept) rest [] (stopped (refused n p.at))
+  stops : (n : Refusal) → found_at p (seen kept rest) ≡ Refused n → eqb (number_of n) 11 ≡ false → Stays (reading p kept) rest [] (stopped (refused n p.at))
   stops n e h =
       record {
         kept = tt;
@@ -148,15 +150,15 @@ module _ (p : Place) (kept rest : List ℕ) (k : Kept (reading p kept)) where
             whole-refused p (kept ++ (rest ++ t)) n d ∙ ap stop (full p (kept ++ (rest ++ t)) n d h);
       }
 
-  by-eleven : (n : ℕ) (b : Bool) → eqb n 11 ≡ b → found_at p (seen kept rest) ≡ Refused n
+  by-eleven : (n : Refusal) (b : Bool) → eqb (number_of n) 11 ≡ b → found_at p (seen kept rest) ≡ Refused n
       → Stays (reading p kept) rest [] (cond b (reading p (kept ++ rest)) (stopped (refused n p.at)))
-  by-eleven n true i e = waits (e ∙ ap Refused (eqb-true n 11 i))
+  by-eleven n true i e = waits (e ∙ ap Refused (cut_number n (eqb-true (number_of n) 11 i)))
   by-eleven n false i e = stops n e i
 
   by-decoded : (d : Decoded) → found_at p (seen kept rest) ≡ d → After (reading p kept) rest (move_for d p kept rest)
   by-decoded (Whole r n) e = on-record r n e
   by-decoded (Offset z) e = on-offset (record { at = 8; offset = z }) refl e
-  by-decoded (Refused n) e = by-eleven n (eqb n 11) refl e
+  by-decoded (Refused n) e = by-eleven n (eqb (number_of n) 11) refl e
 
 -- one move
 pub move-law : (x : Reader) (rest : List ℕ) → Kept x → taken x + length rest ≤ most_bytes → After x rest (move_of x rest)
@@ -200,7 +202,7 @@ pub feed-law : (x : Reader) (part : List ℕ) → Kept x → taken x + length pa
 feed-law x part k h = feed_in_lem (suc (length part)) x part (move_of x part) (move-law x part k h) h (omega arith)
 
 pub end-law : (x : Reader) → Kept x → stop (end_of x) ≡ left_of x []
-end-law (reading p kept) k = sym (ap (whole_from p) (append-nil kept) ∙ whole-refused p kept 11 k.0)
+end-law (reading p kept) k = sym (ap (whole_from p) (append-nil kept) ∙ whole-refused p kept Refusal.CutShort k.0)
 end-law (stopped e) k = refl
 
 pub parts-law : (ps : List (List ℕ)) (x : Reader) → Kept x → taken x + length (concat ps) ≤ most_bytes → parts_of x ps ≡ left_of x (concat ps)

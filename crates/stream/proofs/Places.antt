@@ -1,4 +1,5 @@
 -- Reading whole is what the session's reader does from place to place, where its limit lets it. Assumes nothing.
+use Rattle.refusal.specs.declared.Refusal.{Refusal}
 use Prim.Native.Nat.{ℕ, ◌+◌, ◌-◌, ◌≤◌, ◌<◌}
 use native.Mathlib.Omega.{arith}
 use mathlib.Core.Path.{◌≡◌, refl, sym, ap, ◌∙◌}
@@ -26,12 +27,12 @@ go_on s (Offset q) = with_reading (Offset q) (whole_from q (drop q.at s))
 go_on s End = stop ended
 go_on s (Refused n q) = stop (refused n q.at)
 
-full : (l : List ℕ) (n at : ℕ) → 0 < length l → ending_of l n at ≡ refused n at
+full : (l : List ℕ) (n : Refusal) (at : ℕ) → 0 < length l → ending_of l n at ≡ refused n at
 full [] n at h = let w : ⊥ = omega arith in absurd w
 full (b ∷ l) n at h = refl
 
 none_left : (p : Place) (l : List ℕ) → length l ≤ 0 → whole_from p l ≡ stop ended
-none_left p [] h = whole-refused p [] 11 refl
+none_left p [] h = whole-refused p [] Refusal.CutShort refl
 none_left p (b ∷ l) h = let w : ⊥ = omega arith in absurd w
 
 apart : (a b : ℕ) → a ≤ b → (a ≡ b → ⊥) → 0 < b - a
@@ -60,6 +61,6 @@ module _ (s : List ℕ) (p : Place) where
   read_whole l o h =
       let x = cond (eqb p.at (length s)) End (placed (found_at p (drop p.at s)) p) in
       by_end (eqb p.at (length s)) refl h
-      ∙ ap (λ (b : Bool). go_on s (cond b (Refused 11 p) x)) (sym (le-ltb (length s) p.at h))
-      ∙ ap (λ (b : Bool). go_on s (cond (not b) (Refused 14 p) (cond (ltb (length s) p.at) (Refused 11 p) x))) (sym o)
-      ∙ ap (λ (b : Bool). go_on s (cond b (Refused 12 start) (cond (not (offset_allowed p.offset)) (Refused 14 p) (cond (ltb (length s) p.at) (Refused 11 p) x)))) (sym (le-ltb 65536 (length s) l))
+      ∙ ap (λ (b : Bool). go_on s (cond b (Refused Refusal.CutShort p) x)) (sym (le-ltb (length s) p.at h))
+      ∙ ap (λ (b : Bool). go_on s (cond (not b) (Refused Refusal.NotAllowed p) (cond (ltb (length s) p.at) (Refused Refusal.CutShort p) x))) (sym o)
+      ∙ ap (λ (b : Bool). go_on s (cond b (Refused Refusal.WrongLength start) (cond (not (offset_allowed p.offset)) (Refused Refusal.NotAllowed p) (cond (ltb (length s) p.at) (Refused Refusal.CutShort p) x)))) (sym (le-ltb 65536 (length s) l))

@@ -1,6 +1,8 @@
 -- What the code answers, by what it decoded, is the definition's step. Assumes nothing.
-use Prim.Native.Nat.{ℕ, ◌+◌, ◌-◌, ◌≤◌, ◌<◌}
-use native.Mathlib.Omega.{arith}
+use Rattle.refusal.specs.declared.Refusal.{Refusal}
+use Rattle.refusal.specs.Refusals.{number_of}
+use Prim.Native.Nat.{ℕ, min, ◌+◌, ◌-◌, ◌≤◌, ◌<◌}
+use native.Mathlib.Omega.{arith, min_cases}
 use mathlib.Core.Path.{◌≡◌, refl, sym, ap, ◌∙◌}
 use mathlib.Core.List.{List, [], ◌++◌}
 use mathlib.Core.Bool.{Bool, true, false, cond}
@@ -22,28 +24,20 @@ use Rattle.session.specs.Limits.{offset_allowed}
 use Rattle.stream.specs.declared.Standing.TheVariants.{Open, Refused}
 use Rattle.stream.specs.declared.Step.TheVariants as S
 use Rattle.stream.specs.Stream.{refused, reading, stopped, none, past, found_at, seen, move_for, is_cut, is_sound, step_in, step_on, room_on}
-use Rattle.stream.proofs.Cut.{short}
+use Rattle.stream.proofs.Cut.{short, cut_number}
 use Rattle.stream.proofs.Parts.{Goes, on-record, on-offset, all_seen}
 
 -- the smaller of two numbers of bytes takes what the larger would
-by-share : (n : ℕ) (l : List ℕ) (b : Bool) → ltb (length l) n ≡ b → take (cond b (length l) n) l ≡ take n l
-by-share n l true e = take_all (length l) l (omega arith) ∙ sym (take_all n l (omega (arith, ltb-true (length l) n e)))
-by-share n l false e = refl
-
-pub share-takes : (n from : ℕ) (part : List ℕ) → take (cond (ltb (length part - from) n) (length part - from) n) (drop from part) ≡ take n (drop from part)
+pub share-takes : (n from : ℕ) (part : List ℕ) → take (min (length part - from) n) (drop from part) ≡ take n (drop from part)
 share-takes n from part =
-    ap (λ (k : ℕ). take (cond (ltb k n) k n) (drop from part)) (sym (length-drop from part))
-    ∙ by-share n (drop from part) (ltb (length (drop from part)) n) refl
-
-share-by : (a n : ℕ) (b : Bool) → ltb a n ≡ b → (cond b a n ≤ a) × (cond b a n ≤ n)
-share-by a n true e = (omega arith, omega (arith, ltb-true a n e))
-share-by a n false e = (omega (arith, ltb-false a n e), omega arith)
-
-pub share-fits : (a n : ℕ) → (cond (ltb a n) a n ≤ a) × (cond (ltb a n) a n ≤ n)
-share-fits a n = share-by a n (ltb a n) refl
+    let l = drop from part in
+    let s = length-drop from part in
+    min_cases (length part - from) n (take (min (length part - from) n) l ≡ take n l)
+    (λ h e. ap (λ (k : ℕ). take k l) e ∙ take_all (length part - from) l (omega (arith, s)) ∙ sym (take_all n l (omega (arith, s, h))))
+    (λ h e. ap (λ (k : ℕ). take k l) e)
 
 pub added : {kept m n : ℕ} {d e : List ℕ} (from : ℕ) (part : List ℕ) → 62 ≤ length d → kept ≤ 62
-    → m ≡ cond (ltb (length part - from) (62 - kept)) (length part - from) (62 - kept)
+    → m ≡ min (length part - from) (62 - kept)
     → Put d kept (take (from + m - from) (drop from part)) e n → Stands d kept (take (62 - kept) (drop from part)) e n
 added {kept} {m} {n} {d} {e} from part h k q p =
     let f : from + m - from ≡ m = omega arith in
@@ -51,14 +45,14 @@ added {kept} {m} {n} {d} {e} from part h k q p =
     let y : Put d kept (take (62 - kept) (drop from part)) e n = rw x at p in
     y.fits (omega (arith, take-most (62 - kept) (drop from part)))
 
-pub kept-short : (p : Place) (kept : ℕ) (d : List ℕ) → kept ≤ length d → found_at p (take kept d) ≡ D.Refused 11 → kept ≤ 62
+pub kept-short : (p : Place) (kept : ℕ) (d : List ℕ) → kept ≤ length d → found_at p (take kept d) ≡ D.Refused Refusal.CutShort → kept ≤ 62
 kept-short p kept d w k = omega (arith, short (eqb p.at 0) (take kept d) k, length-take-le kept d w)
 
 -- what is decoded to 11 is cut, and the other way round
-pub cut-eleven : (d : Decoded) → is_cut d ≡ true → d ≡ D.Refused 11
+pub cut-eleven : (d : Decoded) → is_cut d ≡ true → d ≡ D.Refused Refusal.CutShort
 cut-eleven (D.Whole r n) e = let z : ◌≡◌ {A = ℕ} 0 1 = ap (λ (b : Bool). cond b 1 0) e in let w : ⊥ = omega arith in absurd w
 cut-eleven (D.Offset z) e = let z : ◌≡◌ {A = ℕ} 0 1 = ap (λ (b : Bool). cond b 1 0) e in let w : ⊥ = omega arith in absurd w
-cut-eleven (D.Refused n) e = ap D.Refused (eqb-true n 11 e)
+cut-eleven (D.Refused n) e = ap D.Refused (cut_number n (eqb-true (number_of n) 11 e))
 
 -- as many bytes as a record can have are never cut
 not-cut : (b : Bool) (p : Place) (l : List ℕ) → is_cut (found_at p l) ≡ b → 62 ≤ length l → b ≡ false
@@ -82,7 +76,7 @@ front_long k d h l = by k d h l (ltb (length d) k) refl
 -- n bytes of e are the kept ones of d and what is taken of the part
 pub record Lies (p : Place) (kept from n : ℕ) (d part e : List ℕ) : Type 0 where
   pub fits : kept ≤ length d
-  pub unfinished : found_at p (take kept d) ≡ D.Refused 11
+  pub unfinished : found_at p (take kept d) ≡ D.Refused Refusal.CutShort
   pub allowed : offset_allowed p.offset ≡ true
   pub stands : Stands d kept (take (62 - kept) (drop from part)) e n
 
@@ -124,13 +118,13 @@ module _ {p : Place} {kept from n : ℕ} {d part e : List ℕ} (g : Lies p kept 
     pub is_offset_lem : S.Offset (record { at = 8; offset = z }) (from + (8 - kept)) ≡ step_on p kept d part from
     is_offset_lem = ap (λ (j : ℕ). S.Offset (record { at = 8; offset = z }) (from + (8 - j))) (sym size) ∙ sym (moved (D.Offset z) i)
 
-  pub is-cut-short : found_at p (take n e) ≡ D.Refused 11 → S.Stopped (Open p n) ≡ step_on p kept d part from
+  pub is-cut-short : found_at p (take n e) ≡ D.Refused Refusal.CutShort → S.Stopped (Open p n) ≡ step_on p kept d part from
   is-cut-short i =
       let a = all_seen p (take kept d) (drop from part) (g.unfinished, g.allowed) (ap (found_at p) (sym looked) ∙ i) in
       let l : n ≡ length (take kept d ++ drop from part) =
       sym (length-take-le n e inner) ∙ ap length looked ∙ ap (λ (x : List ℕ). length (take kept d ++ x)) a in
-      ap (λ (j : ℕ). S.Stopped (Open p j)) l ∙ sym (moved (D.Refused 11) i)
+      ap (λ (j : ℕ). S.Stopped (Open p j)) l ∙ sym (moved (D.Refused Refusal.CutShort) i)
 
-  pub is-refused : (m : ℕ) → (m ≡ 11 → ⊥) → found_at p (take n e) ≡ D.Refused m → S.Stopped (Refused m p.at) ≡ step_on p kept d part from
+  pub is-refused : (m : Refusal) → (number_of m ≡ 11 → ⊥) → found_at p (take n e) ≡ D.Refused m → S.Stopped (Refused m p.at) ≡ step_on p kept d part from
   is-refused m h i =
-      sym (moved (D.Refused m) i ∙ ap (λ (b : Bool). step_in from (none (cond b (reading p (take kept d ++ drop from part)) (stopped (refused m p.at))))) (ne_eqb m 11 h))
+      sym (moved (D.Refused m) i ∙ ap (λ (b : Bool). step_in from (none (cond b (reading p (take kept d ++ drop from part)) (stopped (refused m p.at))))) (ne_eqb (number_of m) 11 h))

@@ -8,6 +8,7 @@ ghost use Rattle.session.specs.Limits.{offset_allowed};
 ghost use Rattle.session.specs.declared.record.Decoded.TheVariants as D;
 ghost use Rattle.stream.specs.Stream.{most_bytes, found_at, is_cut, is_sound, step_open, room_open, step_on, room_on, step_of, room_of, finish_of};
 
+use refusal::Refusal;
 use session::{Decoded, Place, Record};
 
 // The greatest count of bytes.
@@ -18,7 +19,7 @@ const LIMIT: usize = 0x7fff_ffff_ffff_ffff;
 #[derive(Clone, Copy)]
 pub enum Standing {
     Open(Place, usize),
-    Refused(u8, usize),
+    Refused(Refusal, usize),
     Ended,
 }
 
@@ -37,8 +38,7 @@ pub fn take_next(state: Standing, room: &mut [u8], part: &[u8], from: usize) -> 
 {
     match state {
         Standing::Open(place, kept) => take_open(place, kept, room, part, from),
-        Standing::Refused(number, at) => Step::Stopped(Standing::Refused(number, at)),
-        Standing::Ended => Step::Stopped(Standing::Ended),
+        Standing::Refused(_, _) | Standing::Ended => Step::Stopped(state),
     }
 }
 
@@ -49,12 +49,12 @@ pub fn finish(state: Standing) -> Standing
     match state {
         Standing::Open(place, kept) => {
             if kept == 0 {
-                return Standing::Ended;
+                Standing::Ended
+            } else {
+                Standing::Refused(Refusal::CutShort, place.at)
             }
-            Standing::Refused(11, place.at)
         }
-        Standing::Refused(number, at) => Standing::Refused(number, at),
-        Standing::Ended => Standing::Ended,
+        Standing::Refused(_, _) | Standing::Ended => state,
     }
 }
 
@@ -63,14 +63,11 @@ fn take_open(place: Place, kept: usize, room: &mut [u8], part: &[u8], from: usiz
     ensures { (result ≡ step_open place kept room.old part.now from) × (room.new ≡ room_open place kept room.old part.now from) }
 {
     let at = place.at;
-    if passes(at, kept, left(part.len(), from)) {
-        return Step::Stopped(Standing::Refused(15, at));
-    }
-    if room.len() < 62 {
-        return Step::Stopped(Standing::Refused(15, at));
+    if passes(at, kept, part.len().saturating_sub(from)) || room.len() < 62 {
+        return Step::Stopped(Standing::Refused(Refusal::NoRoom, at));
     }
     if !is_sound(place, kept, room) {
-        return Step::Stopped(Standing::Refused(14, at));
+        return Step::Stopped(Standing::Refused(Refusal::NotAllowed, at));
     }
     if from >= part.len() {
         return Step::Stopped(Standing::Open(place, kept));
@@ -78,28 +75,11 @@ fn take_open(place: Place, kept: usize, room: &mut [u8], part: &[u8], from: usiz
     go_on(place, kept, room, part, from)
 }
 
-// How many bytes of a part of this size are left behind a place.
-fn left(size: usize, from: usize) -> usize
-    ensures { result ≡ size - from }
-{
-    if from < size {
-        return size - from;
-    }
-    0
-}
-
 // Whether the count passes its limit with the bytes kept and those that are left of the part.
 fn passes(at: usize, kept: usize, left: usize) -> bool
     ensures { result ≡ ltb most_bytes (at + kept + left) }
 {
-    if at > LIMIT {
-        return true;
-    }
-    let a = LIMIT - at;
-    if kept > a {
-        return true;
-    }
-    left > a - kept
+    at > LIMIT || kept > LIMIT - at || left > LIMIT - at - kept
 }
 
 // Whether the kept bytes are the front of an unfinished record, and the offset an allowed one.
@@ -107,37 +87,15 @@ fn is_sound(place: Place, kept: usize, room: &[u8]) -> bool
     requires { 62 ≤ length room.now }
     ensures { result ≡ is_sound place (take kept room.now) }
 {
-    let at = place.at;
-    let offset = place.offset;
-    if kept > 61 {
-        return false;
-    }
-    if !session::offset_allowed(offset) {
-        return false;
-    }
-    is_cut(session::decode_at(at == 0, &room[..kept]))
+    kept < 62
+        && session::offset_allowed(place.offset)
+        && is_cut(session::decode_at(place.at == 0, &room[..kept]))
 }
 
 fn is_cut(d: Decoded) -> bool
     ensures { result ≡ is_cut d }
 {
-    match d {
-        Decoded::Whole(_, _) => false,
-        Decoded::Offset(_) => false,
-        Decoded::Refused(number) => number == 11,
-    }
-}
-
-// How many bytes are put behind those that are kept.
-fn share(kept: usize, left: usize) -> usize
-    requires { kept ≤ 62 }
-    ensures { result ≡ cond (ltb left (62 - kept)) left (62 - kept) }
-{
-    let most = 62 - kept;
-    if left < most {
-        return left;
-    }
-    most
+    matches!(d, Decoded::Refused(Refusal::CutShort))
 }
 
 // The bytes of the part that are put behind those that are kept, 62 in all if there are as many.
@@ -145,26 +103,25 @@ fn add(kept: usize, room: &mut [u8], part: &[u8], from: usize) -> usize
     requires { (62 ≤ length room.old) × (from ≤ length part.now) × (kept ≤ 62) }
     ensures { Stands room.old kept (take (62 - kept) (drop from part.now)) room.new result }
 {
-    let more = share(kept, part.len() - from);
+    let more = (part.len() - from).min(62 - kept);
     text::bytes(room, kept, &part[from..from + more])
 }
 
 // The record at the place, which is the first of its session or not, from the kept bytes and the part's.
 fn go_on(place: Place, kept: usize, room: &mut [u8], part: &[u8], from: usize) -> Step
-    requires { (62 ≤ length room.old) × (from ≤ length part.now) × (kept ≤ length room.old) × (found_at place (take kept room.old) ≡ D.Refused 11) × (offset_allowed place.offset ≡ true) × (place.at + kept + (length part.now - from) ≤ most_bytes) }
+    requires { (62 ≤ length room.old) × (from ≤ length part.now) × (kept ≤ length room.old) × (found_at place (take kept room.old) ≡ D.Refused Refusal.CutShort) × (offset_allowed place.offset ≡ true) × (place.at + kept + (length part.now - from) ≤ most_bytes) }
     ensures { (result ≡ step_on place kept room.old part.now from) × (room.new ≡ room_on kept room.old part.now from) }
 {
     let at = place.at;
     let offset = place.offset;
     let seen = add(kept, room, part, from);
-    match session::decode_at(at == 0, &room[..seen]) {
+    let decoded = session::decode_at(at == 0, &room[..seen]);
+    if is_cut(decoded) {
+        return Step::Stopped(Standing::Open(place, seen));
+    }
+    match decoded {
         Decoded::Whole(r, n) => Step::Record(r, Place { at: at + n, offset }, from + (n - kept)),
         Decoded::Offset(z) => Step::Offset(Place { at: 8, offset: z }, from + (8 - kept)),
-        Decoded::Refused(number) => {
-            if number == 11 {
-                return Step::Stopped(Standing::Open(place, seen));
-            }
-            Step::Stopped(Standing::Refused(number as u8, at))
-        }
+        Decoded::Refused(refusal) => Step::Stopped(Standing::Refused(refusal, at)),
     }
 }

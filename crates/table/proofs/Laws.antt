@@ -1,5 +1,7 @@
 -- A list of tests: the one that is told fails and those ahead of it are met; none is told where all are met; its number is that of
 -- the first row that applies. Once for every list. Assumes nothing.
+use Rattle.std.specs.Prelude.{Result, Ok, Err}
+use Rattle.refusal.specs.Refusals.{number_of}
 use Prim.Native.Nat.{ℕ, zero, suc}
 use mathlib.Core.Path.{◌≡◌, refl, sym, ap, ◌∙◌, subst}
 use mathlib.Core.Bool.{Bool, true, false, cond, not, ◌&&◌, ◌||◌, false≢true, and_assoc}
@@ -9,49 +11,63 @@ use borrow.Author.Tests.{eq-eqb}
 use Rattle.facts.proofs.Truth.{and_0, and-1}
 use Rattle.facts.proofs.Wholes.{zero_one}
 use Rattle.table.specs.declared.Entry.{Entry}
-use Rattle.table.specs.declared.Test.{Test}
-use Rattle.table.specs.declared.Test.TheVariants.{Passed, Failed}
 use Rattle.table.specs.Tests.{meets, first_failing, Reason, all_meet, test_number, passes, told, ◌▷◌, applies, first_row, behind_row, without, ordered}
 
 -- ---- the code's chain is the list's first failing entry
 
-stopped : (f : Entry) (es : List Entry) → Failed f ▷ es ≡ Failed f
+stopped : (f : Entry) (es : List Entry) → Err f ▷ es ≡ Err f
 unfolding told
 stopped f [] = refl
 stopped f (e ∷ es) = stopped f es
 
-pub first_failing_lem : (es : List Entry) → Passed ▷ es ≡ first_failing es
+pub first_failing_lem : (es : List Entry) → (Ok tt) ▷ es ≡ first_failing es
 unfolding told first_failing
 first_failing_lem [] = refl
 first_failing_lem (e ∷ es) = go (first_failing_lem es) (meets e)
   where
-    go : Passed ▷ es ≡ first_failing es → (b : Bool) → told Passed b e ▷ es ≡ cond b (first_failing es) (Failed e)
+    go : (Ok tt) ▷ es ≡ first_failing es → (b : Bool) → told (Ok tt) b e ▷ es ≡ cond b (first_failing es) (Err e)
     go k true = k
     go k false = stopped e es
 
+-- what a call's tests come to, in a chain that begins with them: as it failed, or as from the start
+pub told_fails : (f : Entry) (met : Bool) (e : Entry) → told (Err f) met e ≡ Err f
+unfolding told
+told_fails f met e = refl
+
+pub told_passes : (u : Unit) (met : Bool) (e : Entry) → told (Ok u) met e ≡ told (Ok tt) met e
+unfolding told
+told_passes u met e = refl
+
 -- one list after the other is the two as one
-pub then : (t : Test) (xs ys : List Entry) → t ▷ xs ▷ ys ≡ t ▷ (xs ++ ys)
+pub then : (t : Result Unit Entry) (xs ys : List Entry) → t ▷ xs ▷ ys ≡ t ▷ (xs ++ ys)
 then t [] ys = refl
 then t (e ∷ xs) ys = then (told t (meets e) e) xs ys
 
+-- the tests of one list and then of another: as the first fails, or the second's where the first is met
+pub then-fails : (xs ys : List Entry) (e : Entry) → Ok tt ▷ xs ≡ Err e → Ok tt ▷ (xs ++ ys) ≡ Err e
+then-fails xs ys e h = sym (then (Ok tt) xs ys) ∙ ap (λ (t : Result Unit Entry). t ▷ ys) h ∙ stopped e ys
+
+pub then-passes : (xs ys : List Entry) (u : Unit) → Ok tt ▷ xs ≡ Ok u → Ok tt ▷ (xs ++ ys) ≡ Ok tt ▷ ys
+then-passes xs ys u h = sym (then (Ok tt) xs ys) ∙ ap (λ (t : Result Unit Entry). t ▷ ys) h
+
 -- ---- 1: the reason is true, and there is no second one
 
-pub reason : (es : List Entry) (e : Entry) → first_failing es ≡ Failed e → Reason es e
+pub reason : (es : List Entry) (e : Entry) → first_failing es ≡ Err e → Reason es e
 unfolding first_failing
 reason [] e h = let n : ◌≡◌ {A = ℕ} 0 1 = cc in absurd (zero_one n)
 reason (d ∷ es) e h = go (reason es e) (meets d) refl h
   where
-    go : (first_failing es ≡ Failed e → Reason es e) → (b : Bool) → meets d ≡ b → cond b (first_failing es) (Failed d) ≡ Failed e → Reason (d ∷ es) e
+    go : (first_failing es ≡ Err e → Reason es e) → (b : Bool) → meets d ≡ b → cond b (first_failing es) (Err d) ≡ Err e → Reason (d ∷ es) e
     go f true k g =
         let r = f g in
         record { ahead = d ∷ r.ahead; rest = r.rest; stands = ap (λ (l : List Entry). d ∷ l) r.stands; met = rw k r.met; fails = r.fails }
     go f false k g = let i : d ≡ e = cc in record { ahead = []; rest = es; stands = ap (λ (x : Entry). x ∷ es) i; met = refl; fails = ap meets (sym i) ∙ k }
 
-pub reason-only : (es : List Entry) (e : Entry) → Reason es e → first_failing es ≡ Failed e
+pub reason-only : (es : List Entry) (e : Entry) → Reason es e → first_failing es ≡ Err e
 unfolding first_failing
 reason-only es e r = ap first_failing r.stands ∙ go r.ahead r.met
   where
-    go : (xs : List Entry) → all_meet xs ≡ true → first_failing (xs ++ (e ∷ r.rest)) ≡ Failed e
+    go : (xs : List Entry) → all_meet xs ≡ true → first_failing (xs ++ (e ∷ r.rest)) ≡ Err e
     go [] h = rw r.fails
     go (d ∷ xs) h = rw (and_0 (meets d) (all_meet xs) h) (go xs (and-1 (meets d) (all_meet xs) h))
 
@@ -62,21 +78,21 @@ unfolding first_failing passes
 passes-all [] = refl
 passes-all (e ∷ es) = go (passes-all es) (meets e)
   where
-    go : passes (first_failing es) ≡ all_meet es → (b : Bool) → passes (cond b (first_failing es) (Failed e)) ≡ (b && all_meet es)
+    go : passes (first_failing es) ≡ all_meet es → (b : Bool) → passes (cond b (first_failing es) (Err e)) ≡ (b && all_meet es)
     go k true = k
     go k false = refl
 
-pub all_met_lem : (es : List Entry) → first_failing es ≡ Passed → all_meet es ≡ true
+pub all_met_lem : (es : List Entry) → first_failing es ≡ Ok tt → all_meet es ≡ true
 unfolding passes
 all_met_lem es h = sym (passes-all es) ∙ ap passes h
 
-pub none-fails : (es : List Entry) → all_meet es ≡ true → first_failing es ≡ Passed
+pub none-fails : (es : List Entry) → all_meet es ≡ true → first_failing es ≡ Ok tt
 unfolding passes
 none-fails es h = passed (first_failing es) (passes-all es ∙ h)
   where
-    passed : (t : Test) → passes t ≡ true → t ≡ Passed
-    passed Passed g = refl
-    passed (Failed e) g = absurd (false≢true g)
+    passed : (t : Result Unit Entry) → passes t ≡ true → t ≡ Ok tt
+    passed (Ok tt) g = refl
+    passed (Err e) g = absurd (false≢true g)
 
 -- ---- 3: the number is that of the first row that applies
 
@@ -92,7 +108,7 @@ data Led (n : ℕ) (es : List Entry) : Type 0 where
 
 quiet : (n : ℕ) (es : List Entry) → without n es ≡ true → applies n es ≡ false
 quiet n [] h = refl
-quiet n (e ∷ es) h = go (quiet n es) (eqb e.number n) (meets e) h
+quiet n (e ∷ es) h = go (quiet n es) (eqb (number_of e.refusal) n) (meets e) h
   where
     go : (without n es ≡ true → applies n es ≡ false) → (b c : Bool) → (not b && without n es) ≡ true → ((not c && b) || applies n es) ≡ false
     go f true c k = absurd (false≢true k)
@@ -102,15 +118,15 @@ quiet n (e ∷ es) h = go (quiet n es) (eqb e.number n) (meets e) h
 led : (n : ℕ) (es : List Entry) → without n (behind_row n es) ≡ true → Led n es
 unfolding first_failing test_number
 led n [] h = silent (record { silent = refl; same = refl; others = λ m. refl })
-led n (e ∷ es) h = go (led n es) (eqb e.number n) refl (meets e) refl
+led n (e ∷ es) h = go (led n es) (eqb (number_of e.refusal) n) refl (meets e) refl
   where
-    more : eqb e.number n ≡ true → meets e ≡ true → Led n es → Led n (e ∷ es)
+    more : eqb (number_of e.refusal) n ≡ true → meets e ≡ true → Led n es → Led n (e ∷ es)
     more i j (tells a g) = tells (rw j a) (rw j g)
     more i j (silent r) = silent (record { silent = rw j r.silent; same = rw (i, j) r.same; others = λ m. rw (i, j) (r.others m) })
 
-    go : (without n (behind_row n es) ≡ true → Led n es) → (b : Bool) → eqb e.number n ≡ b → (c : Bool) → meets e ≡ c → Led n (e ∷ es)
+    go : (without n (behind_row n es) ≡ true → Led n es) → (b : Bool) → eqb (number_of e.refusal) n ≡ b → (c : Bool) → meets e ≡ c → Led n (e ∷ es)
     go f true i true j = more i j (f (rw i at h))
-    go f true i false j = tells (rw (j, i)) (rw j (eqb→eq e.number n (subst T (sym i) tt)))
+    go f true i false j = tells (rw (j, i)) (rw j (eqb→eq (number_of e.refusal) n (subst T (sym i) tt)))
     go f false i c j = silent (record { silent = quiet n (e ∷ es) (rw i at h); same = rw i; others = λ m. rw i })
 
 as-rest : (ns : List ℕ) (xs ys : List Entry) → ((m : ℕ) → applies m xs ≡ applies m ys) → first_row ns xs ≡ first_row ns ys
@@ -131,45 +147,45 @@ first_row_lem (n ∷ ns) es h = go (first_row_lem ns (behind_row n es) (and-1 (w
 -- every entry is of row n
 abbrev pub is_row : ℕ → List Entry → Bool
 is_row n [] = true
-is_row n (e ∷ es) = eqb e.number n && is_row n es
+is_row n (e ∷ es) = eqb (number_of e.refusal) n && is_row n es
 
 -- the entries of one row, and others behind them: its number unless all of it is met
 pub row-then : (n : ℕ) (xs ys : List Entry) → is_row n xs ≡ true → test_number (first_failing (xs ++ ys)) ≡ cond (all_meet xs) (test_number (first_failing ys)) n
 unfolding first_failing test_number
 row-then n [] ys h = refl
-row-then n (e ∷ xs) ys h = go (row-then n xs ys (and-1 (eqb e.number n) (is_row n xs) h)) (meets e)
+row-then n (e ∷ xs) ys h = go (row-then n xs ys (and-1 (eqb (number_of e.refusal) n) (is_row n xs) h)) (meets e)
   where
-    go : test_number (first_failing (xs ++ ys)) ≡ cond (all_meet xs) (test_number (first_failing ys)) n → (b : Bool) → test_number (cond b (first_failing (xs ++ ys)) (Failed e)) ≡ cond (b && all_meet xs) (test_number (first_failing ys)) n
+    go : test_number (first_failing (xs ++ ys)) ≡ cond (all_meet xs) (test_number (first_failing ys)) n → (b : Bool) → test_number (cond b (first_failing (xs ++ ys)) (Err e)) ≡ cond (b && all_meet xs) (test_number (first_failing ys)) n
     go k true = k
-    go k false = eqb→eq e.number n (subst T (sym (and_0 (eqb e.number n) (is_row n xs) h)) tt)
+    go k false = eqb→eq (number_of e.refusal) n (subst T (sym (and_0 (eqb (number_of e.refusal) n) (is_row n xs) h)) tt)
 
 -- a row's tests, should they fail, all have its number
-abbrev pub Numbered : ℕ → Test → Type 0
-Numbered n Passed = Prim.Unit
-Numbered n (Failed e) = e.number ≡ n
+abbrev pub Numbered : ℕ → Result Unit Entry → Type 0
+Numbered n (Ok tt) = Prim.Unit
+Numbered n (Err e) = (number_of e.refusal) ≡ n
 
 pub one-row : (n : ℕ) (es : List Entry) → is_row n es ≡ true → Numbered n (first_failing es)
 unfolding first_failing
 one-row n [] h = tt
-one-row n (e ∷ es) h = go (one-row n es (and-1 (eqb e.number n) (is_row n es) h)) (meets e)
+one-row n (e ∷ es) h = go (one-row n es (and-1 (eqb (number_of e.refusal) n) (is_row n es) h)) (meets e)
   where
-    go : Numbered n (first_failing es) → (b : Bool) → Numbered n (cond b (first_failing es) (Failed e))
+    go : Numbered n (first_failing es) → (b : Bool) → Numbered n (cond b (first_failing es) (Err e))
     go k true = k
-    go k false = eqb→eq e.number n (subst T (sym (and_0 (eqb e.number n) (is_row n es) h)) tt)
+    go k false = eqb→eq (number_of e.refusal) n (subst T (sym (and_0 (eqb (number_of e.refusal) n) (is_row n es) h)) tt)
 
 -- a row that the list does not have is not told
-abbrev pub NotRow : ℕ → Test → Type 0
-NotRow n Passed = Prim.Unit
-NotRow n (Failed e) = e.number ≡ n → ⊥
+abbrev pub NotRow : ℕ → Result Unit Entry → Type 0
+NotRow n (Ok tt) = Prim.Unit
+NotRow n (Err e) = (number_of e.refusal) ≡ n → ⊥
 
 pub not-row : (n : ℕ) (es : List Entry) → without n es ≡ true → NotRow n (first_failing es)
 unfolding first_failing
 not-row n [] h = tt
-not-row n (e ∷ es) h = go (not-row n es (and-1 (not (eqb e.number n)) (without n es) h)) (meets e)
+not-row n (e ∷ es) h = go (not-row n es (and-1 (not (eqb (number_of e.refusal) n)) (without n es) h)) (meets e)
   where
-    go : NotRow n (first_failing es) → (b : Bool) → NotRow n (cond b (first_failing es) (Failed e))
+    go : NotRow n (first_failing es) → (b : Bool) → NotRow n (cond b (first_failing es) (Err e))
     go k true = k
-    go k false = λ z. false≢true (ap not (sym (eq-eqb _ _ z)) ∙ and_0 (not (eqb e.number n)) (without n es) h)
+    go k false = λ z. false≢true (ap not (sym (eq-eqb _ _ z)) ∙ and_0 (not (eqb (number_of e.refusal) n)) (without n es) h)
 
 -- where the tests ahead are met, the first that fails is among the rest
 pub met-then : (xs ys : List Entry) → all_meet xs ≡ true → first_failing (xs ++ ys) ≡ first_failing ys

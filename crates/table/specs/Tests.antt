@@ -1,19 +1,19 @@
 -- The refusal table as a list of tests. Every test says what must hold, and refuses unless it holds; so a NaN is refused.
 -- Assumes nothing: these are definitions.
-use Rattle.std.specs.Prelude.{ℕ, ◌≡◌, Bool, true, false, cond, not, ◌&&◌, ◌||◌, List, [], ◌∷◌, ◌++◌, eqb, Float}
+use Rattle.std.specs.Prelude.{ℕ, ◌≡◌, Bool, true, false, cond, not, ◌&&◌, ◌||◌, List, [], ◌∷◌, ◌++◌, eqb, Float, Result, Ok, Err}
+use Rattle.refusal.specs.declared.Refusal.{Refusal}
+use Rattle.refusal.specs.Refusals.{number_of}
 use Rattle.real.specs.F64.{◌⊖◌, ◌≤ᶠ◌, ◌<ᶠ◌, f1, finite, size_of}
 use Rattle.table.specs.declared.Name.{Name}
 use Rattle.table.specs.declared.Part.{Part}
 use Rattle.table.specs.declared.Limit.{Limit}
 use Rattle.table.specs.declared.Limit.TheVariants.{Finite, AtLeast, AtMost, Under, Over, SizeAtMost, SizeUnder, OneWithin}
 use Rattle.table.specs.declared.Entry.{Entry}
-use Rattle.table.specs.declared.Test.{Test}
-use Rattle.table.specs.declared.Test.TheVariants.{Passed, Failed}
 
 -- ---- an entry, and its test
 
-abbrev pub entry : ℕ → Name → Part → Float → Limit → Entry
-entry number name part amount limit = record { number = number; name = name; part = part; amount = amount; limit = limit }
+abbrev pub entry : Refusal → Name → Part → Float → Limit → Entry
+entry refusal name part amount limit = record { refusal = refusal; name = name; part = part; amount = amount; limit = limit }
 
 -- whether an amount is what it must be
 abbrev pub satisfies : Limit → Float → Bool
@@ -32,9 +32,9 @@ meets e = satisfies e.limit e.amount
 -- ---- a list of entries
 
 -- the first that its amount does not meet
-unfoldable pub first_failing : List Entry → Test
-first_failing [] = Passed
-first_failing (e ∷ es) = cond (meets e) (first_failing es) (Failed e)
+unfoldable pub first_failing : List Entry → Result Unit Entry
+first_failing [] = Ok tt
+first_failing (e ∷ es) = cond (meets e) (first_failing es) (Err e)
 
 -- every entry is met
 abbrev pub all_meet : List Entry → Bool
@@ -50,21 +50,21 @@ pub record Reason (es : List Entry) (e : Entry) : Type 0 where
   pub fails : meets e ≡ false
 
 -- the refusal's number, and 0 where no test fails
-unfoldable pub test_number : Test → ℕ
-test_number Passed = 0
-test_number (Failed e) = e.number
+unfoldable pub test_number : Result Unit Entry → ℕ
+test_number (Ok tt) = 0
+test_number (Err e) = (number_of e.refusal)
 
-unfoldable pub passes : Test → Bool
-passes Passed = true
-passes (Failed e) = false
+unfoldable pub passes : Result Unit Entry → Bool
+passes (Ok tt) = true
+passes (Err e) = false
 
 -- as the code goes: one entry more, whose test is made already; and t, or where it passed the first of these that fails
-unfoldable pub told : Test → Bool → Entry → Test
-told Passed met e = cond met Passed (Failed e)
-told (Failed f) met e = Failed f
+unfoldable pub told : Result Unit Entry → Bool → Entry → Result Unit Entry
+told (Ok u) met e = cond met (Ok tt) (Err e)
+told (Err f) met e = Err f
 
 infixl 40 ◌▷◌
-abbrev pub ◌▷◌ : Test → List Entry → Test
+abbrev pub ◌▷◌ : Result Unit Entry → List Entry → Result Unit Entry
 t ▷ [] = t
 t ▷ (e ∷ es) = told t (meets e) e ▷ es
 
@@ -73,7 +73,7 @@ t ▷ (e ∷ es) = told t (meets e) e ▷ es
 -- a row applies if a test of it fails
 abbrev pub applies : ℕ → List Entry → Bool
 applies n [] = false
-applies n (e ∷ es) = (not (meets e) && eqb e.number n) || applies n es
+applies n (e ∷ es) = (not (meets e) && eqb (number_of e.refusal) n) || applies n es
 
 -- the first of these rows that applies, and 0 where none does
 unfoldable pub first_row : List ℕ → List Entry → ℕ
@@ -87,11 +87,11 @@ table_order = 1 ∷ 2 ∷ 3 ∷ 4 ∷ 5 ∷ 10 ∷ 6 ∷ 19 ∷ []
 -- the entries behind the leading ones of row n; and that none is of row n
 abbrev pub behind_row : ℕ → List Entry → List Entry
 behind_row n [] = []
-behind_row n (e ∷ es) = cond (eqb e.number n) (behind_row n es) (e ∷ es)
+behind_row n (e ∷ es) = cond (eqb (number_of e.refusal) n) (behind_row n es) (e ∷ es)
 
 abbrev pub without : ℕ → List Entry → Bool
 without n [] = true
-without n (e ∷ es) = not (eqb e.number n) && without n es
+without n (e ∷ es) = not (eqb (number_of e.refusal) n) && without n es
 
 -- the entries of a row stand together, and the rows in this order
 abbrev pub ordered : List ℕ → List Entry → Bool

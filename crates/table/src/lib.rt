@@ -1,11 +1,12 @@
-// The refusal table as a list of tests. A test is an entry: its row's number, the number it looks at, its amount, and what
-// it must be. A routine makes its entries one after another, in the order written; the first that fails is kept, and
-// the rest are passed over. A routine that only refuses keeps the row's number; whoever asks why is shown the entry.
+// The refusal table as a list of tests. A test is an entry: its row's refusal, the number it looks at, its amount, and what
+// it must be. A routine makes its tests one after another, in the order written, and stops at the first that fails, whose
+// entry is the error. A routine that only refuses keeps the row's refusal; whoever asks why is shown the entry.
 #![tactic(auto)]
 
 ghost use Rattle.std.specs.Prelude.{◌≡◌, [], ◌∷◌};
-ghost use Rattle.table.specs.declared.Limit.TheVariants as L;
-ghost use Rattle.table.specs.Tests.{entry, told, ◌▷◌};
+ghost use Rattle.table.specs.Tests.{entry, satisfies, ◌▷◌};
+
+use refusal::Refusal;
 
 // The inputs, then the derived numbers, then the numbers of a trial.
 #[derive(Clone, Copy)]
@@ -72,109 +73,50 @@ pub enum Limit {
 
 #[derive(Clone, Copy)]
 pub struct Entry {
-    pub number: u32,
+    pub refusal: Refusal,
     pub name: Name,
     pub part: Part,
     pub amount: f64,
     pub limit: Limit,
 }
 
-// What the entries so far come to: all are met, or this is the first that is not.
-#[derive(Clone, Copy)]
-pub enum Test {
-    Passed,
-    Failed(Entry),
-}
-
-// One entry more, whose test is made already.
-fn tell(t: Test, met: bool, number: u32, name: Name, part: Part, amount: f64, limit: Limit) -> Test
-    ensures { result ≡ told t met (entry number name part amount limit) }
-{
-    match t {
-        Test::Failed(_) => t,
-        Test::Passed => {
-            if met {
-                return Test::Passed;
-            }
-            Test::Failed(Entry {
-                number,
-                name,
-                part,
-                amount,
-                limit,
-            })
+impl Limit {
+    // The amount is what it must be. A NaN never is.
+    pub fn is_met_by(self, amount: f64) -> bool
+        ensures { result ≡ satisfies self amount }
+    {
+        match self {
+            Limit::Finite => real::is_finite(amount),
+            Limit::AtLeast(b) => b <= amount,
+            Limit::AtMost(b) => amount <= b,
+            Limit::Under(b) => amount < b,
+            Limit::Over(b) => b < amount,
+            Limit::SizeAtMost(b) => real::size(amount) <= b,
+            Limit::SizeUnder(b) => real::size(amount) < b,
+            Limit::OneWithin(b) => real::size(amount - 1.0) <= b,
         }
     }
 }
 
-pub fn finite(t: Test, number: u32, name: Name, part: Part, x: f64) -> Test
-    ensures { result ≡ t ▷ (entry number name part x L.Finite ∷ []) }
+// One test: the entry itself where the amount is not what it must be.
+#[tactic(auto, unfolding(crate::specs::Tests::told))]
+pub fn test(
+    refusal: Refusal,
+    name: Name,
+    part: Part,
+    amount: f64,
+    limit: Limit,
+) -> Result<(), Entry>
+    ensures { result ≡ Ok tt ▷ (entry refusal name part amount limit ∷ []) }
 {
-    tell(t, real::is_finite(x), number, name, part, x, Limit::Finite)
-}
-
-pub fn at_least(t: Test, number: u32, name: Name, part: Part, x: f64, b: f64) -> Test
-    ensures { result ≡ t ▷ (entry number name part x (L.AtLeast b) ∷ []) }
-{
-    tell(t, b <= x, number, name, part, x, Limit::AtLeast(b))
-}
-
-pub fn at_most(t: Test, number: u32, name: Name, part: Part, x: f64, b: f64) -> Test
-    ensures { result ≡ t ▷ (entry number name part x (L.AtMost b) ∷ []) }
-{
-    tell(t, x <= b, number, name, part, x, Limit::AtMost(b))
-}
-
-pub fn under(t: Test, number: u32, name: Name, part: Part, x: f64, b: f64) -> Test
-    ensures { result ≡ t ▷ (entry number name part x (L.Under b) ∷ []) }
-{
-    tell(t, x < b, number, name, part, x, Limit::Under(b))
-}
-
-pub fn over(t: Test, number: u32, name: Name, part: Part, x: f64, b: f64) -> Test
-    ensures { result ≡ t ▷ (entry number name part x (L.Over b) ∷ []) }
-{
-    tell(t, b < x, number, name, part, x, Limit::Over(b))
-}
-
-pub fn size_at_most(t: Test, number: u32, name: Name, part: Part, x: f64, b: f64) -> Test
-    ensures { result ≡ t ▷ (entry number name part x (L.SizeAtMost b) ∷ []) }
-{
-    tell(
-        t,
-        real::size(x) <= b,
-        number,
+    if limit.is_met_by(amount) {
+        return Ok(());
+    }
+    Err(Entry {
+        refusal,
         name,
         part,
-        x,
-        Limit::SizeAtMost(b),
-    )
-}
-
-pub fn size_under(t: Test, number: u32, name: Name, part: Part, x: f64, b: f64) -> Test
-    ensures { result ≡ t ▷ (entry number name part x (L.SizeUnder b) ∷ []) }
-{
-    tell(
-        t,
-        real::size(x) < b,
-        number,
-        name,
-        part,
-        x,
-        Limit::SizeUnder(b),
-    )
-}
-
-pub fn one_within(t: Test, number: u32, name: Name, part: Part, x: f64, b: f64) -> Test
-    ensures { result ≡ t ▷ (entry number name part x (L.OneWithin b) ∷ []) }
-{
-    tell(
-        t,
-        real::size(x - 1.0) <= b,
-        number,
-        name,
-        part,
-        x,
-        Limit::OneWithin(b),
-    )
+        amount,
+        limit,
+    })
 }

@@ -1,9 +1,8 @@
 -- Text put into a buffer at a place, and numbers as text. Assumes nothing: these are definitions.
+use Rattle.refusal.specs.declared.Refusal.{Refusal}
 use Prim.Native.Char.{code}
 use Prim.Native.String.{String, [] as []ˢ, ◌∷◌ as ◌∷ˢ◌}
-use Rattle.std.specs.Prelude.{ℕ, zero, suc, ◌+◌, ◌-◌, ◌/◌, ◌%◌, ◌^◌, ◌≤◌, ◌<◌, ◌≡◌, List, [], ◌∷◌, ◌++◌, cond, length, take, drop, ltb, ℤ, pos, negsuc}
-use Rattle.text.specs.declared.Made.{Made}
-use Rattle.text.specs.declared.Made.TheVariants.{Line, Refused}
+use Rattle.std.specs.Prelude.{ℕ, zero, suc, ◌+◌, ◌-◌, ◌/◌, ◌%◌, ◌^◌, ◌≤◌, ◌<◌, ◌≡◌, List, [], ◌∷◌, ◌++◌, cond, length, take, drop, ltb, ℤ, pos, negsuc, Err, Ok, Result}
 
 -- the codes of a text, as it is written
 abbrev pub ascii : String → List ℕ
@@ -31,8 +30,8 @@ pub record Put (d : List ℕ) (at : ℕ) (x : List ℕ) (e : List ℕ) (r : ℕ)
 
 -- the line x made in the buffer d, which makes e, and r is answered: the line stands at the front and the bytes past it
 -- as they were; if d has less than the room it stays as it was, and the answer is 15
-pub record InFront (room : ℕ) (x d e : List ℕ) (r : Made) : Type 0 where
-  pub answer : r ≡ cond (ltb (length d) room) (Refused 15) (Line (length x))
+pub record InFront (room : ℕ) (x d e : List ℕ) (r : Result ℕ Refusal) : Type 0 where
+  pub answer : r ≡ cond (ltb (length d) room) (Err Refusal.NoRoom) (Ok (length x))
   pub buffer : e ≡ cond (ltb (length d) room) d (x ++ drop (length x) d)
 
 -- `0` to `9`, `A` to `F`

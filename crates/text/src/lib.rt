@@ -7,30 +7,25 @@ ghost use Rattle.text.specs.Text.{Stands, Put, digit_text, digits, decimal, sign
 
 pub const NOWHERE: usize = 0xffff_ffff_ffff_ffff;
 
-// How long a line at the front of a buffer is, or the number of the refusal.
-#[derive(Clone, Copy)]
-pub enum Made {
-    Line(usize),
-    Refused(u32),
-}
-
 pub fn byte(buf: &mut [u8], at: usize, b: u8) -> usize
     ensures { Put buf.old at (b ∷ []) buf.new result }
 {
     if at < buf.len() {
         buf[at] = b;
-        return at + 1;
+        at + 1
+    } else {
+        NOWHERE
     }
-    NOWHERE
 }
 
 pub fn bytes(buf: &mut [u8], at: usize, x: &[u8]) -> usize
     ensures { Put buf.old at x.now buf.new result }
 {
     if has_room(buf.len(), at, x.len()) {
-        return copy(buf, at, x);
+        copy(buf, at, x)
+    } else {
+        NOWHERE
     }
-    NOWHERE
 }
 
 // n in decimal.
@@ -39,9 +34,10 @@ pub fn number(buf: &mut [u8], at: usize, n: u64) -> usize
 {
     let k = count_digits(n, 20);
     if has_room(buf.len(), at, k) {
-        return put_digits(buf, at, n, k);
+        put_digits(buf, at, n, k)
+    } else {
+        NOWHERE
     }
-    NOWHERE
 }
 
 // z in decimal, with a minus in front where it is negative.
@@ -50,9 +46,10 @@ pub fn signed(buf: &mut [u8], at: usize, z: i64) -> usize
 {
     let n = signs::magnitude(z);
     if signs::is_negative(z) {
-        return minus(buf, at, n + 1);
+        minus(buf, at, n + 1)
+    } else {
+        number(buf, at, n)
     }
-    number(buf, at, n)
 }
 
 // A minus, and n in decimal.
@@ -62,16 +59,17 @@ fn minus(buf: &mut [u8], at: usize, n: u64) -> usize
     let k = count_digits(n, 20);
     if has_room(buf.len(), at, k + 1) {
         let a = put_byte(buf, at, b'-');
-        return put_digits(buf, a, n, k);
+        put_digits(buf, a, n, k)
+    } else {
+        NOWHERE
     }
-    NOWHERE
 }
 
 // Whether k bytes from `at` on lie within a buffer of this size.
 fn has_room(size: usize, at: usize, k: usize) -> bool
     ensures { result ≡ leb (at + k) size }
 {
-    if at <= size { k <= size - at } else { false }
+    at <= size && k <= size - at
 }
 
 fn put_byte(buf: &mut [u8], at: usize, b: u8) -> usize
@@ -86,12 +84,9 @@ fn copy(buf: &mut [u8], at: usize, x: &[u8]) -> usize
     requires { at + length x.now ≤ length buf.old }
     ensures { Stands buf.old at x.now buf.new result }
 {
-    let mut i = 0;
-    while i < x.len() {
-        buf[at + i] = x[i];
-        i += 1;
-    }
-    at + i
+    let end = at + x.len();
+    buf[at..end].copy_from_slice(x);
+    end
 }
 
 // How many decimal digits n has, of which `left` are counted at most.
@@ -113,10 +108,8 @@ fn put_digits(buf: &mut [u8], at: usize, n: u64, k: usize) -> usize
     ensures { Stands buf.old at (decimal n) buf.new result }
 {
     let mut m = n;
-    let mut i = k;
-    while i > 0 {
-        i -= 1;
-        buf[at + i] = 48 + (m % 10) as u8;
+    for i in (0..k).rev() {
+        buf[at + i] = b'0' + (m % 10) as u8;
         m /= 10;
     }
     at + k
@@ -127,8 +120,5 @@ pub fn digit(n: u64) -> u8
     ensures { result ≡ digit_text (n % 16) }
 {
     let d = (n % 16) as u8;
-    if d < 10 {
-        return 48 + d;
-    }
-    55 + d
+    if d < 10 { b'0' + d } else { b'A' - 10 + d }
 }

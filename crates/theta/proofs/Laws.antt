@@ -1,5 +1,7 @@
 -- The refusal number is the first row's that applies, 1 where an input is infinite or not a number, and 6 where r×v has length 0 and
 -- the rows ahead pass; a time that is handed out is finite, and its state is the one given. Assumes nothing.
+use Rattle.std.specs.Prelude.{Result, Ok, Err}
+use Rattle.refusal.specs.declared.Refusal.TheVariants as Refusal
 use Prim.Native.Nat.{ℕ, suc}
 use native.Mathlib.Omega.{arith}
 use mathlib.Core.Path.{◌≡◌, refl, sym, ap, ◌∙◌}
@@ -10,8 +12,6 @@ use lib.Ieee.{Float, of_bits}
 use Rattle.real.specs.F64.{◌≤ᶠ◌, ◌<ᶠ◌, two^, f0, finite, size_of}
 use Rattle.real.proofs.Finite.{size-at-most, divided-by-zero}
 use Rattle.vector.specs.declared.State.{State}
-use Rattle.table.specs.declared.Test.{Test}
-use Rattle.table.specs.declared.Test.TheVariants.{Passed, Failed}
 use Rattle.vector.specs.Vectors.{position_of, velocity_of, dot_of, cross_of, length_of}
 use Rattle.table.specs.declared.Name.TheVariants.{Position, Velocity, Sin, Cos}
 use Rattle.table.specs.declared.Part.TheVariants.{Length}
@@ -38,10 +38,10 @@ use Rattle.theta.specs.Theta.{sweep_of, input_rows, angle_row, derived_row, thet
 -- ---- the answer's number
 
 -- tests that give a number other than 0 give the answer's
-refused : (t : Test) (x : TransferTime) (n : ℕ) → Tests.test_number t ≡ suc n → transfer_time_number (answered t x) ≡ suc n
+refused : (t : Result Unit Entry) (x : TransferTime) (n : ℕ) → Tests.test_number t ≡ suc n → transfer_time_number (answered t x) ≡ suc n
 unfolding answered transfer_time_number Tests.test_number
-refused Passed x n h = absurd (omega arith)
-refused (Failed e) x n h = h
+refused (Ok tt) x n h = absurd (omega arith)
+refused (Err e) x n h = h
 
 not-at-most : (x : Float) → finite x ≡ false → (size_of x ≤ᶠ two^ 5) ≡ false
 unfolding of_bits
@@ -72,9 +72,9 @@ module _ (mu : Float) (s : State) (sin cos : Float) where
       by_tests (first_failing tests)
       ∙ ap (λ (n : ℕ). cond (Tests.passes (first_failing tests)) (transfer_time_number (transfer_time_by s (reach_of (arc_of mu S)))) n) (first_row_lem table_order tests refl)
     where
-      by_tests : (p : Test) → transfer_time_number (answered p (transfer_time_by s (reach_of (arc_of mu S)))) ≡ cond (Tests.passes p) (transfer_time_number (transfer_time_by s (reach_of (arc_of mu S)))) (Tests.test_number p)
-      by_tests Passed = refl
-      by_tests (Failed e) = refl
+      by_tests : (p : Result Unit Entry) → transfer_time_number (answered p (transfer_time_by s (reach_of (arc_of mu S)))) ≡ cond (Tests.passes p) (transfer_time_number (transfer_time_by s (reach_of (arc_of mu S)))) (Tests.test_number p)
+      by_tests (Ok tt) = refl
+      by_tests (Err e) = refl
 
   -- an input that is infinite or not a number is refused with 1, whatever else holds
   pub theta-not-finite : (finite mu && all_finite (position_of s) && all_finite (velocity_of s) && finite sin && finite cos) ≡ false → transfer_time_number (theta_of mu s sin cos) ≡ 1
@@ -104,10 +104,10 @@ pub record Handed (s : State) (z : Timed) : Type 0 where
   pub r : Finite (position_of s)
   pub v : Finite (velocity_of s)
 
-answered-time : (t : Test) (x : TransferTime) (z : Timed) → answered t x ≡ Time z → (t ≡ Passed) × (x ≡ Time z)
+answered-time : (t : Result Unit Entry) (x : TransferTime) (z : Timed) → answered t x ≡ Time z → (t ≡ Ok tt) × (x ≡ Time z)
 unfolding answered
-answered-time Passed x z e = (refl, e)
-answered-time (Failed f) x z e = (cc, cc)
+answered-time (Ok tt) x z e = (refl, e)
+answered-time (Err f) x z e = (cc, cc)
 
 told-time : (s : State) (r : Reached) (z : Timed) → transfer_time_by s r ≡ Time z → (r ≡ R.Time z.time) × (z.state ≡ s)
 unfolding transfer_time_by
@@ -126,12 +126,12 @@ theta-handed mu s sin cos z e =
     let I : List Entry = input_rows mu s sin cos d.r1 in
     let N : List Entry = finite_inputs mu Position (position_of s) Velocity (velocity_of s) ++ finite_number Sin sin ++ finite_number Cos cos in
     let P : List Entry = position_row Position (position_of s) d.r1 in
-    let W : List Entry = velocity_components 4 Velocity (velocity_of s) in
+    let W : List Entry = velocity_components Refusal.VelocityOutOfRange Velocity (velocity_of s) in
     let rows = met-right N (mu_row mu ++ P ++ W) (met-left I (angle_row d) (met-left (I ++ angle_row d) (derived_row d ++ straight_row d.pn) (all_met_lem (theta_tests mu s sin cos d) a.0))) in
     let p = met-right (mu_row mu) P (met-left (mu_row mu ++ P) W rows) in
     record {
       time = in-time-finite z.time ((reach-in (arc_of mu d)).held z.time t.0);
       state = t.1;
-      r = position-finite 3 Position (position_of s) (met-left (position_components 3 Position (position_of s)) (entry 3 Position Length d.r1 (AtLeast (two^ 18)) ∷ entry 3 Position Length d.r1 (Under (two^ 29)) ∷ []) p);
-      v = velocity-finite 4 Velocity (velocity_of s) (met-right (mu_row mu ++ P) W rows);
+      r = position-finite Refusal.PositionOutOfRange Position (position_of s) (met-left (position_components Refusal.PositionOutOfRange Position (position_of s)) (entry Refusal.PositionOutOfRange Position Length d.r1 (AtLeast (two^ 18)) ∷ entry Refusal.PositionOutOfRange Position Length d.r1 (Under (two^ 29)) ∷ []) p);
+      v = velocity-finite Refusal.VelocityOutOfRange Velocity (velocity_of s) (met-right (mu_row mu ++ P) W rows);
     }

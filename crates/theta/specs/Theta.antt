@@ -1,5 +1,7 @@
 -- Time-Theta: a state and an angle give a time, in the operations of f64 and in their order. Assumes nothing: these are definitions.
-use Rattle.std.specs.Prelude.{ℕ, List, [], ◌∷◌, ◌++◌, Float}
+use Rattle.std.specs.Prelude.{ℕ, List, [], ◌∷◌, ◌++◌, Float, Result, Ok, Err}
+use Rattle.refusal.specs.declared.Refusal.TheVariants as Refusal
+use Rattle.refusal.specs.Refusals.{number_of}
 use Rattle.real.specs.F64.{◌⊕◌, ◌⊖◌, ◌⊗◌, ◌⊘◌, two^, two^-, f1}
 use Rattle.root.specs.Root.{root_of}
 use Rattle.vector.specs.declared.State.{State}
@@ -7,8 +9,6 @@ use Rattle.table.specs.declared.Name.TheVariants.{Position, Velocity, Sin, Cos, 
 use Rattle.table.specs.declared.Part.TheVariants.{Whole}
 use Rattle.table.specs.declared.Limit.TheVariants.{AtLeast, SizeAtMost}
 use Rattle.table.specs.declared.Entry.{Entry}
-use Rattle.table.specs.declared.Test.{Test}
-use Rattle.table.specs.declared.Test.TheVariants.{Passed, Failed}
 use Rattle.vector.specs.Vectors.{position_of, velocity_of, dot_of, cross_of, length_of}
 use Rattle.table.specs.Tests.{entry, first_failing}
 use Rattle.rows.specs.Rows.{finite_number, finite_inputs, state_rows}
@@ -44,11 +44,11 @@ input_rows mu s sin cos r1 =
 
 -- 10: |(cos²+sin²)−1| > 2^-40 or 1−cos < 2^-20
 abbrev pub angle_row : Sweep → List Entry
-angle_row d = entry 10 Excess Whole d.excess (SizeAtMost (two^- 40)) ∷ entry 10 Versine Whole d.versine (AtLeast (two^- 20)) ∷ []
+angle_row d = entry Refusal.AngleTooSmall Excess Whole d.excess (SizeAtMost (two^- 40)) ∷ entry Refusal.AngleTooSmall Versine Whole d.versine (AtLeast (two^- 20)) ∷ []
 
 -- 6: |c2| < 2^6, |cot γ| ≤ 2^5, p_N ≤ 2^4, and Lambert's second
 abbrev pub derived_row : Sweep → List Entry
-derived_row d = c2_row d.c2 ++ (entry 6 Cot Whole d.cot (SizeAtMost (two^ 5)) ∷ p_row d.pn) ++ cothalf_row d.cothalf
+derived_row d = c2_row d.c2 ++ (entry Refusal.DerivedOutOfRange Cot Whole d.cot (SizeAtMost (two^ 5)) ∷ p_row d.pn) ++ cothalf_row d.cothalf
 
 -- the tests, in the order of the rows
 abbrev pub theta_tests : Float → State → Float → Float → Sweep → List Entry
@@ -73,9 +73,9 @@ transfer_time_by s (R.Under e) = TooShort
 transfer_time_by s (R.Over e) = TooLong
 
 -- a refusal keeps the number of the test that failed
-unfoldable pub answered : Test → TransferTime → TransferTime
-answered Passed x = x
-answered (Failed e) x = Refused e.number
+unfoldable pub answered : Result Unit Entry → TransferTime → TransferTime
+answered (Ok tt) x = x
+answered (Err e) x = Refused e.refusal
 
 abbrev pub theta_from : Float → State → Float → Float → Sweep → TransferTime
 theta_from mu s sin cos d = answered (first_failing (theta_tests mu s sin cos d)) (transfer_time_by s (reach_of (arc_of mu d)))
@@ -88,4 +88,4 @@ unfoldable pub transfer_time_number : TransferTime → ℕ
 transfer_time_number (Time t) = 0
 transfer_time_number TooLong = 7
 transfer_time_number TooShort = 8
-transfer_time_number (Refused n) = n
+transfer_time_number (Refused n) = number_of n

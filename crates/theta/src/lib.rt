@@ -2,12 +2,12 @@
 #![tactic(auto)]
 
 ghost use Rattle.std.specs.Prelude.{◌≡◌};
-ghost use Rattle.table.specs.declared.Test.TheVariants.{Passed};
 ghost use Rattle.table.specs.Tests.{◌▷◌, first_failing};
 ghost use Rattle.theta.specs.Theta.{sweep_of, input_rows, angle_row, derived_row, theta_tests, arc_of, transfer_time_by, theta_of};
 
 use reach::{Arc, Reached};
-use table::{Name, Part, Test};
+use refusal::Refusal;
+use table::{Entry, Limit, Name, Part};
 use vector::State;
 
 // The derived numbers: excess is (cos² + sin²) − 1, versine is 1 − cos, pn is p_N, and cothalf is sin/(1 − cos).
@@ -35,76 +35,89 @@ pub enum TransferTime {
     Time(Timed),
     TooLong,
     TooShort,
-    Refused(u32),
+    Refused(Refusal),
 }
 
 pub fn sweep_of(mu: f64, s: State, sin: f64, cos: f64) -> Sweep
     ensures { result ≡ sweep_of mu s sin cos }
 {
-    let r = vector::position(s);
-    let v = vector::velocity(s);
-    let r1 = vector::length(r);
-    let h = vector::cross(r, v);
+    let r = s.position();
+    let v = s.velocity();
+    let r1 = r.length();
+    let h = r.cross(v);
     Sweep {
         r1,
         excess: (cos * cos + sin * sin) - 1.0,
         versine: 1.0 - cos,
         c2: conic::c2(r1, v, mu),
-        cot: vector::dot(r, v) / vector::length(h),
+        cot: r.dot(v) / h.length(),
         pn: conic::pn(h, mu, r1),
         cothalf: reach::cothalf(sin, cos),
     }
 }
 
 // Row 10: |(cos²+sin²)−1| ≤ 2^-40, then 2^-20 ≤ 1−cos.
-fn angle_row(t: Test, d: Sweep) -> Test
-    ensures { result ≡ t ▷ angle_row d }
+#[tactic(auto, using(table::proofs::Laws::told_fails, table::proofs::Laws::told_passes))]
+fn angle_row(d: Sweep) -> Result<(), Entry>
+    ensures { result ≡ Ok tt ▷ angle_row d }
 {
-    let a = table::size_at_most(
-        t,
-        10,
+    let most = Limit::SizeAtMost(9.094947017729282e-13);
+    let least = Limit::AtLeast(9.5367431640625e-7);
+    table::test(
+        Refusal::AngleTooSmall,
         Name::Excess,
         Part::Whole,
         d.excess,
-        9.094947017729282e-13,
-    );
-    table::at_least(
-        a,
-        10,
+        most,
+    )?;
+    table::test(
+        Refusal::AngleTooSmall,
         Name::Versine,
         Part::Whole,
         d.versine,
-        9.5367431640625e-7,
+        least,
     )
 }
 
 // Row 6: |c2| < 2^6, |cot γ| ≤ 2^5, p_N ≤ 2^4, then |sin/(1−cos)| ≤ 2^5.
-fn derived_row(t: Test, d: Sweep) -> Test
-    ensures { result ≡ t ▷ derived_row d }
+#[tactic(auto, using(table::proofs::Laws::told_fails, table::proofs::Laws::told_passes))]
+fn derived_row(d: Sweep) -> Result<(), Entry>
+    ensures { result ≡ Ok tt ▷ derived_row d }
 {
-    let a = conic::c2_row(t, d.c2);
-    let b = table::size_at_most(a, 6, Name::Cot, Part::Whole, d.cot, 32.0);
-    reach::cothalf_row(conic::p_row(b, d.pn), d.cothalf)
+    conic::c2_row(d.c2)?;
+    table::test(
+        Refusal::DerivedOutOfRange,
+        Name::Cot,
+        Part::Whole,
+        d.cot,
+        Limit::SizeAtMost(32.0),
+    )?;
+    conic::p_row(d.pn)?;
+    reach::cothalf_row(d.cothalf)
 }
 
 // Rows 1 to 4, from r1 = |r|.
-fn input_rows(mu: f64, s: State, sin: f64, cos: f64, r1: f64) -> Test
-    ensures { result ≡ Passed ▷ input_rows mu s sin cos r1 }
+#[tactic(auto, using(table::proofs::Laws::told_fails, table::proofs::Laws::told_passes))]
+fn input_rows(mu: f64, s: State, sin: f64, cos: f64, r1: f64) -> Result<(), Entry>
+    ensures { result ≡ Ok tt ▷ input_rows mu s sin cos r1 }
 {
-    let r = vector::position(s);
-    let v = vector::velocity(s);
-    let a = rows::finite_inputs(mu, Name::Position, r, Name::Velocity, v);
-    let b = rows::finite_number(a, Name::Sin, sin);
-    let c = rows::finite_number(b, Name::Cos, cos);
-    rows::state_rows(c, mu, s, r1)
+    let r = s.position();
+    let v = s.velocity();
+    rows::finite_inputs(mu, Name::Position, r, Name::Velocity, v)?;
+    rows::finite_number(Name::Sin, sin)?;
+    rows::finite_number(Name::Cos, cos)?;
+    rows::state_rows(mu, s, r1)
 }
 
 // Rows 1 to 4, 10, 6 and 19.
-pub fn tests(mu: f64, s: State, sin: f64, cos: f64, d: Sweep) -> Test
+#[tactic(auto, using(table::proofs::Laws::told_fails, table::proofs::Laws::told_passes))]
+pub fn tests(mu: f64, s: State, sin: f64, cos: f64, d: Sweep) -> Result<(), Entry>
     ensures { result ≡ first_failing (theta_tests mu s sin cos d) }
 {
-    let a = input_rows(mu, s, sin, cos, d.r1);
-    conic::straight_row(derived_row(angle_row(a, d), d), d.pn)
+    input_rows(mu, s, sin, cos, d.r1)?;
+    angle_row(d)?;
+    derived_row(d)?;
+    conic::straight_row(d.pn)
 }
 
 // What steps 4 to 7 are given.
@@ -139,7 +152,7 @@ pub fn time_theta(mu: f64, s: State, sin: f64, cos: f64) -> TransferTime
 {
     let d = sweep_of(mu, s, sin, cos);
     match tests(mu, s, sin, cos, d) {
-        Test::Passed => transfer_time_by(s, reach::reach_of(arc_of(mu, d))),
-        Test::Failed(f) => TransferTime::Refused(f.number),
+        Ok(()) => transfer_time_by(s, reach::reach_of(arc_of(mu, d))),
+        Err(f) => TransferTime::Refused(f.refusal),
     }
 }

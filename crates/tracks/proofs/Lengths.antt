@@ -1,4 +1,5 @@
 -- Every line fits 512 bytes. Assumes nothing.
+use Rattle.std.specs.Prelude.{None, Option, Some}
 use Prim.Native.Nat.{ℕ, ◌+◌, ◌≤◌}
 use native.Mathlib.Omega.{arith}
 use mathlib.Core.Bool.{Bool, true, false, cond}
@@ -7,6 +8,7 @@ use lib.ListN.{length, length-append}
 use lib.Dec.{lit≤, eqb}
 use lib.IntN.{ℤ}
 use lib.Ieee.{Float}
+use Rattle.refusal.specs.Refusals.{number_of}
 use Rattle.text.specs.Text.{ascii, signed_text}
 use Rattle.text.specs.Pieces.{concat}
 use Rattle.text.proofs.Decimals.{at_most}
@@ -24,8 +26,6 @@ use Rattle.lines.proofs.Sizes.{name-short}
 use Rattle.flight.specs.declared.Flight.{Flight}
 use Rattle.replay.specs.declared.Answer.{Answer}
 use Rattle.replay.specs.declared.Answer.TheVariants as A
-use Rattle.replay.specs.declared.Vehicle.{Vehicle}
-use Rattle.replay.specs.declared.Vehicle.TheVariants.{Unset, Set}
 use Rattle.tracks.specs.Tracks.{heading_pieces, answer_pieces, event_pieces, record_pieces, about_text, flight_pieces, where_pieces, vehicle_pieces}
 
 pub heading-fits : size heading_pieces ≤ 512
@@ -52,7 +52,7 @@ unfolding concat answer_pieces
 answer-short A.Set = lit≤ tt
 answer-short A.Done = lit≤ tt
 answer-short (A.Off x) = off-short x
-answer-short (A.Refused n) = simp length-append (omega (arith, at_most 20 n))
+answer-short (A.Refused n) = simp length-append (omega (arith, at_most 20 (number_of n)))
 
 event-short : (t : ℤ) (v : ℕ) (k : Kind) (a : Answer) → size (event_pieces t v k a) ≤ 512
 unfolding event_pieces
@@ -95,11 +95,11 @@ unfolding flight_pieces
 flight-short f =
     omega (arith, front-short (about_text f.body) (signed_text f.time) (numbers f.state), about-short f.body, signed-short f.time, numbers-short f.state)
 
-where-short : (x : Vehicle) → size (where_pieces x) ≤ 480
+where-short : (x : Option Flight) → size (where_pieces x) ≤ 480
 unfolding concat where_pieces
-where-short Unset = lit≤ tt
-where-short (Set f) = flight-short f
+where-short None = lit≤ tt
+where-short (Some f) = flight-short f
 
-pub vehicle-fits : (n : ℕ) (x : Vehicle) → size (vehicle_pieces n x) ≤ 512
+pub vehicle-fits : (n : ℕ) (x : Option Flight) → size (vehicle_pieces n x) ≤ 512
 unfolding concat vehicle_pieces
 vehicle-fits n x = simp length-append (omega (arith, at_most 20 n, where-short x))

@@ -1,5 +1,6 @@
 -- The lines of a replay, piece by piece: decimals for people, then `bits` and the same numbers exactly. Assumes nothing: these are definitions.
-use Rattle.std.specs.Prelude.{ℕ, cond, List, [], ◌∷◌, ◌++◌, eqb, ℤ}
+use Rattle.std.specs.Prelude.{ℕ, cond, List, [], ◌∷◌, ◌++◌, eqb, ℤ, None, Option, Some}
+use Rattle.refusal.specs.Refusals.{number_of}
 use Rattle.text.specs.Text.{ascii, decimal, signed_text}
 use Rattle.columns.specs.Rows.{labelled_pieces, end_pieces}
 use Rattle.session.specs.declared.record.Kind.{Kind}
@@ -10,8 +11,6 @@ use Rattle.lines.specs.Lines.{stamp_pieces}
 use Rattle.flight.specs.declared.Flight.{Flight}
 use Rattle.replay.specs.declared.Answer.{Answer}
 use Rattle.replay.specs.declared.Answer.TheVariants as A
-use Rattle.replay.specs.declared.Vehicle.{Vehicle}
-use Rattle.replay.specs.declared.Vehicle.TheVariants.{Unset, Set}
 
 unfoldable pub heading_pieces : List (List ℕ)
 heading_pieces = ascii "day cs vehicle kind result\n" ∷ []
@@ -21,7 +20,7 @@ unfoldable pub answer_pieces : Answer → List (List ℕ)
 answer_pieces A.Set = ascii " set\n" ∷ []
 answer_pieces A.Done = ascii " done\n" ∷ []
 answer_pieces (A.Off x) = labelled_pieces (ascii " off") (x ∷ []) ++ end_pieces (x ∷ [])
-answer_pieces (A.Refused n) = ascii " refused " ∷ decimal n ∷ ascii "\n" ∷ []
+answer_pieces (A.Refused n) = ascii " refused " ∷ decimal (number_of n) ∷ ascii "\n" ∷ []
 
 -- `DAY CS VEHICLE KIND RESULT`
 unfoldable pub event_pieces : ℤ → ℕ → Kind → Answer → List (List ℕ)
@@ -44,10 +43,10 @@ flight_pieces f =
     ++ (labelled_pieces (ascii " v") (f.state.vx ∷ f.state.vy ∷ f.state.vz ∷ [])
     ++ end_pieces (f.state.rx ∷ f.state.ry ∷ f.state.rz ∷ f.state.vx ∷ f.state.vy ∷ f.state.vz ∷ [])))
 
-unfoldable pub where_pieces : Vehicle → List (List ℕ)
-where_pieces Unset = ascii " unset\n" ∷ []
-where_pieces (Set f) = flight_pieces f
+unfoldable pub where_pieces : Option Flight → List (List ℕ)
+where_pieces None = ascii " unset\n" ∷ []
+where_pieces (Some f) = flight_pieces f
 
 -- `vehicle V unset`, or `vehicle V` and where it is
-unfoldable pub vehicle_pieces : ℕ → Vehicle → List (List ℕ)
+unfoldable pub vehicle_pieces : ℕ → Option Flight → List (List ℕ)
 vehicle_pieces n x = ascii "vehicle " ∷ decimal n ∷ where_pieces x

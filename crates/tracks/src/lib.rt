@@ -8,7 +8,7 @@ ghost use Rattle.lines.specs.Days.{local_of};
 ghost use Rattle.tracks.specs.Tracks.{heading_pieces, answer_pieces, event_pieces, record_pieces, about_text, flight_pieces, vehicle_pieces};
 
 use flight::Flight;
-use replay::{Answer, Vehicle};
+use replay::Answer;
 use session::{Kind, Record};
 
 pub fn heading(buf: &mut [u8]) -> usize
@@ -28,9 +28,9 @@ fn answer(buf: &mut [u8], at: usize, x: Answer) -> usize
             let a = columns::labelled(buf, at, b" off", &one);
             columns::end(buf, a, &one)
         }
-        Answer::Refused(n) => {
+        Answer::Refused(refusal) => {
             let a = text::bytes(buf, at, b" refused ");
-            let b = text::number(buf, a, n as u64);
+            let b = text::number(buf, a, refusal.number() as u64);
             text::byte(buf, b, b'\n')
         }
     }
@@ -58,9 +58,10 @@ fn about(buf: &mut [u8], at: usize, body: u8) -> usize
     ensures { Put buf.old at (about_text body) buf.new result }
 {
     if body == 0 {
-        return text::bytes(buf, at, b" earth at ");
+        text::bytes(buf, at, b" earth at ")
+    } else {
+        text::bytes(buf, at, b" moon at ")
     }
-    text::bytes(buf, at, b" moon at ")
 }
 
 fn flight(buf: &mut [u8], at: usize, f: Flight) -> usize
@@ -78,13 +79,13 @@ fn flight(buf: &mut [u8], at: usize, f: Flight) -> usize
 }
 
 // Where a vehicle is at last, its time as recorded.
-pub fn vehicle(buf: &mut [u8], number: u64, x: Vehicle) -> usize
+pub fn vehicle(buf: &mut [u8], number: u64, x: Option<Flight>) -> usize
     ensures { Laid buf.old 0 (vehicle_pieces number x) buf.new result }
 {
     let a = text::bytes(buf, 0, b"vehicle ");
     let b = text::number(buf, a, number);
     match x {
-        Vehicle::Unset => text::bytes(buf, b, b" unset\n"),
-        Vehicle::Set(f) => flight(buf, b, f),
+        None => text::bytes(buf, b, b" unset\n"),
+        Some(f) => flight(buf, b, f),
     }
 }

@@ -1,5 +1,7 @@
 -- A bracket that passes row 6 lies on its problem's grid and holds what stands at its own ends; trials can go on from it, and from
 -- the start. Assumes nothing.
+use Rattle.reason.specs.declared.Amiss.{Amiss}
+use Rattle.std.specs.Prelude.{Ok, Result, Err}
 use Prim.Native.Nat.{ℕ, ◌+◌, ◌^◌, ◌≤◌, ◌<◌}
 use native.Mathlib.Omega.{arith}
 use native.Mathlib.Nat as Nat
@@ -22,14 +24,11 @@ use Rattle.iterator.proofs.Whole.{lt-le, le_trans}
 use Rattle.iterator.proofs.Sames.{same-is, same_self}
 use Rattle.problem.specs.Problems.{start_of, held_of, most_of}
 use Rattle.problem.specs.Held.{on_grid, end_tests, checked_of}
-use Rattle.problem.specs.declared.Checked.{Checked}
-use Rattle.problem.specs.declared.Checked.TheVariants.{Fine, Wrong}
 use Rattle.problem.specs.declared.Problem.{Problem}
 use Rattle.problem.specs.declared.Problem.TheVariants.{Kepler, Lambert}
 use Rattle.problem.proofs.Checks.{fine-met, met-fine}
 use Rattle.problem.proofs.Starts.{start-few}
 use Rattle.trials.specs.Ended.{begun_by, begun_of}
-use Rattle.trials.specs.declared.Begun.TheVariants as B
 use Rattle.trials.proofs.Standing.{Standing, standing-in, standing-grid}
 
 -- what row 6 lets through
@@ -43,10 +42,10 @@ pub record Goes (problem : Problem) (asked : Float) (b : Bracket) : Type 0 where
   pub above : is_above b.above ≡ true
   pub count : b.count ≤ most_of problem
 
-pub goes : (problem : Problem) (asked : Float) (b : Bracket) → checked_of problem asked b ≡ Fine → Goes problem asked b
+pub goes : (problem : Problem) (asked : Float) (b : Bracket) → checked_of problem asked b ≡ Ok tt → Goes problem asked b
 unfolding on_grid
 goes problem asked b e =
-    let h = (fine-met Fine (end_tests problem asked b) e).1 in
+    let h = (fine-met (Ok tt) (end_tests problem asked b) e).1 in
     let h1 = and-1 (on_grid problem b.lo) _ h in
     let h2 = and-1 (on_grid problem b.hi) _ h1 in
     let h3 = and-1 (lt_z b.lo b.hi) _ h2 in
@@ -65,7 +64,7 @@ goes problem asked b e =
     }
 
 -- and the other way
-pub goes_back : (problem : Problem) (asked : Float) (b : Bracket) → Goes problem asked b → checked_of problem asked b ≡ Fine
+pub goes_back : (problem : Problem) (asked : Float) (b : Bracket) → Goes problem asked b → checked_of problem asked b ≡ Ok tt
 unfolding on_grid
 goes_back problem asked b h =
     met-fine (end_tests problem asked b)
@@ -110,16 +109,16 @@ Begins s =
 begins : {s : Bracket} → Standing s → s.count + width_of s.lo s.hi < 2 ^ 64 → Begins s
 begins h f = (standing-in h, (h.lower, (h.upper, f)))
 
-pub begun-begins : (problem : Problem) (asked : Float) (g : Beginning) (s : Bracket) → begun_of problem asked g ≡ B.At s → Begins s
+pub begun-begins : (problem : Problem) (asked : Float) (g : Beginning) (s : Bracket) → begun_of problem asked g ≡ Ok s → Begins s
 unfolding begun_of begun_by
 begun-begins problem asked Start s e =
     let i : start_of problem ≡ s = cc in
     subst Begins i (begins (start-stands problem) (start-few problem))
 begun-begins problem asked (Stopped b) s e = go (checked_of problem asked b) refl e
   where
-    go : (c : Checked) → checked_of problem asked b ≡ c → begun_by c b ≡ B.At s → Begins s
-    go Fine t e =
+    go : (c : Result Unit Amiss) → checked_of problem asked b ≡ c → begun_by c b ≡ Ok s → Begins s
+    go (Ok tt) t e =
         let i : b ≡ s = cc in
         let h = goes problem asked b t in
         subst Begins i (begins (goes-stands h) (goes-few h))
-    go (Wrong w) t e = let z : ◌≡◌ {A = ℕ} 0 1 = cc in absurd (zero_one z)
+    go (Err w) t e = let z : ◌≡◌ {A = ℕ} 0 1 = cc in absurd (zero_one z)

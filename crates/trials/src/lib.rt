@@ -13,16 +13,9 @@ ghost use Rattle.trials.specs.Span.{below_of, above_of, bracket_of, span_of};
 ghost use Rattle.trials.specs.Ended.{begun_of, ended_from};
 
 use iterator::{Beginning, Bracket, Judgement};
-use problem::{Checked, Problem};
+use problem::Problem;
 use reason::Amiss;
-use table::{Entry, Name, Test};
-
-// The bracket to begin with, or why trials cannot go on from a stopped one.
-#[derive(Clone, Copy)]
-pub enum Begun {
-    At(Bracket),
-    Wrong(Amiss),
-}
+use table::{Entry, Name};
 
 // Where the trials ended: at neighbours, or at the limit. Or what ended the solve ahead of them: a test that fails, or
 // what is amiss with the bracket to go on from.
@@ -166,62 +159,65 @@ fn iterate(problem: Problem, asked: f64, limit: u64, start: Bracket) -> Bracket
 }
 
 // Row 1 of the time that a judgement carries.
-fn time_input(t: Test, name: Name, j: Judgement) -> Test
-    ensures { result ≡ t ▷ time_input name j }
+#[tactic(auto, using(table::proofs::Laws::told_fails, table::proofs::Laws::told_passes))]
+fn time_input(name: Name, j: Judgement) -> Result<(), Entry>
+    ensures { result ≡ Ok tt ▷ time_input name j }
 {
     match j {
-        Judgement::Low(x) => rows::finite_number(t, name, x),
-        Judgement::High(x) => rows::finite_number(t, name, x),
-        Judgement::Under => t,
-        Judgement::Over => t,
+        Judgement::Low(x) => rows::finite_number(name, x),
+        Judgement::High(x) => rows::finite_number(name, x),
+        Judgement::Under => Ok(()),
+        Judgement::Over => Ok(()),
     }
 }
 
 // Of both that a stopped bracket carries.
-pub fn times_input(t: Test, g: Beginning) -> Test
-    ensures { result ≡ t ▷ times_input g }
+#[tactic(auto, using(table::proofs::Laws::told_fails, table::proofs::Laws::told_passes))]
+pub fn times_input(g: Beginning) -> Result<(), Entry>
+    ensures { result ≡ Ok tt ▷ times_input g }
+{
+    let Beginning::Stopped(b) = g else {
+        return Ok(());
+    };
+    let below = b.below;
+    let above = b.above;
+    time_input(Name::Lo, below)?;
+    time_input(Name::Hi, above)
+}
+
+#[tactic(auto, unfolding(crate::specs::Ended::begun_of, crate::specs::Ended::begun_by))]
+fn begin(problem: Problem, asked: f64, g: Beginning) -> Result<Bracket, Amiss>
+    ensures { result ≡ begun_of problem asked g }
 {
     match g {
-        Beginning::Start => t,
+        Beginning::Start => Ok(problem::start(problem)),
         Beginning::Stopped(b) => {
-            let below = b.below;
-            let above = b.above;
-            time_input(time_input(t, Name::Lo, below), Name::Hi, above)
+            problem::check_ends(problem, asked, b)?;
+            Ok(b)
         }
     }
 }
 
-fn begin(problem: Problem, asked: f64, g: Beginning) -> Begun
-    ensures { result ≡ begun_of problem asked g }
-{
-    match g {
-        Beginning::Start => Begun::At(problem::start(problem)),
-        Beginning::Stopped(b) => match problem::check_ends(problem, asked, b) {
-            Checked::Fine => Begun::At(b),
-            Checked::Wrong(a) => Begun::Wrong(a),
-        },
-    }
-}
-
 // The tests ahead of the trials, row 6 of a bracket to go on from, the tests behind it, and then the trials.
+#[tactic(auto, unfolding(crate::specs::Ended::ended_from))]
 pub fn ended_from(
-    ahead: Test,
+    ahead: Result<(), Entry>,
     problem: Problem,
     asked: f64,
     limit: u64,
     g: Beginning,
-    behind: Test,
+    behind: Result<(), Entry>,
 ) -> Ended
     ensures { result ≡ ended_from ahead (begun_of problem asked g) behind problem asked limit }
 {
-    match ahead {
-        Test::Failed(e) => Ended::Refused(e),
-        Test::Passed => match begin(problem, asked, g) {
-            Begun::Wrong(a) => Ended::Wrong(a),
-            Begun::At(b) => match behind {
-                Test::Failed(e) => Ended::Refused(e),
-                Test::Passed => Ended::At(iterate(problem, asked, limit, b)),
-            },
+    if let Err(e) = ahead {
+        return Ended::Refused(e);
+    }
+    match begin(problem, asked, g) {
+        Err(a) => Ended::Wrong(a),
+        Ok(b) => match behind {
+            Err(e) => Ended::Refused(e),
+            Ok(()) => Ended::At(iterate(problem, asked, limit, b)),
         },
     }
 }

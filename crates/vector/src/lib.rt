@@ -4,6 +4,8 @@
 ghost use Rattle.std.specs.Prelude.{◌≡◌};
 ghost use Rattle.vector.specs.Vectors.{position_of, velocity_of, state_of, dot_of, cross_of, length_of, scaled_of, sum_of, difference_of, divided_of, negated_of};
 
+use std::ops::{Add, Div, Mul, Neg, Sub};
+
 // Three numbers.
 #[derive(Clone, Copy)]
 pub struct Vector {
@@ -23,115 +25,134 @@ pub struct State {
     pub vz: f64,
 }
 
-pub fn position(s: State) -> Vector
-    ensures { result ≡ position_of s }
-{
-    Vector {
-        x: s.rx,
-        y: s.ry,
-        z: s.rz,
+impl State {
+    pub fn new(r: Vector, v: Vector) -> State
+        ensures { result ≡ state_of r v }
+    {
+        State {
+            rx: r.x,
+            ry: r.y,
+            rz: r.z,
+            vx: v.x,
+            vy: v.y,
+            vz: v.z,
+        }
+    }
+
+    pub fn position(self) -> Vector
+        ensures { result ≡ position_of self }
+    {
+        Vector {
+            x: self.rx,
+            y: self.ry,
+            z: self.rz,
+        }
+    }
+
+    pub fn velocity(self) -> Vector
+        ensures { result ≡ velocity_of self }
+    {
+        Vector {
+            x: self.vx,
+            y: self.vy,
+            z: self.vz,
+        }
     }
 }
 
-pub fn velocity(s: State) -> Vector
-    ensures { result ≡ velocity_of s }
-{
-    Vector {
-        x: s.vx,
-        y: s.vy,
-        z: s.vz,
+impl Vector {
+    // a·b
+    pub fn dot(self, b: Vector) -> f64
+        ensures { result ≡ dot_of self b }
+    {
+        self.x * b.x + self.y * b.y + self.z * b.z
+    }
+
+    // a×b
+    pub fn cross(self, b: Vector) -> Vector
+        ensures { result ≡ cross_of self b }
+    {
+        Vector {
+            x: self.y * b.z - self.z * b.y,
+            y: self.z * b.x - self.x * b.z,
+            z: self.x * b.y - self.y * b.x,
+        }
+    }
+
+    // |a|
+    pub fn length(self) -> f64
+        ensures { result ≡ length_of self }
+    {
+        root::square_root(self.dot(self))
     }
 }
 
-pub fn state_of(r: Vector, v: Vector) -> State
-    ensures { result ≡ state_of r v }
-{
-    State {
-        rx: r.x,
-        ry: r.y,
-        rz: r.z,
-        vx: v.x,
-        vy: v.y,
-        vz: v.z,
+impl Mul<Vector> for f64 {
+    type Output = Vector;
+
+    ghost mul_gives = { λ k a r. r ≡ scaled_of k a };
+
+    fn mul(self, a: Vector) -> Vector {
+        Vector {
+            x: self * a.x,
+            y: self * a.y,
+            z: self * a.z,
+        }
     }
 }
 
-// a·b
-pub fn dot(a: Vector, b: Vector) -> f64
-    ensures { result ≡ dot_of a b }
-{
-    a.x * b.x + a.y * b.y + a.z * b.z
-}
+impl Add for Vector {
+    type Output = Vector;
 
-// a×b
-pub fn cross(a: Vector, b: Vector) -> Vector
-    ensures { result ≡ cross_of a b }
-{
-    Vector {
-        x: a.y * b.z - a.z * b.y,
-        y: a.z * b.x - a.x * b.z,
-        z: a.x * b.y - a.y * b.x,
+    ghost add_gives = { λ a b r. r ≡ sum_of a b };
+
+    fn add(self, b: Vector) -> Vector {
+        Vector {
+            x: self.x + b.x,
+            y: self.y + b.y,
+            z: self.z + b.z,
+        }
     }
 }
 
-// |a|
-pub fn length(a: Vector) -> f64
-    ensures { result ≡ length_of a }
-{
-    root::square_root(dot(a, a))
-}
+impl Sub for Vector {
+    type Output = Vector;
 
-// k·a
-pub fn scaled(k: f64, a: Vector) -> Vector
-    ensures { result ≡ scaled_of k a }
-{
-    Vector {
-        x: k * a.x,
-        y: k * a.y,
-        z: k * a.z,
+    ghost sub_gives = { λ a b r. r ≡ difference_of a b };
+
+    fn sub(self, b: Vector) -> Vector {
+        Vector {
+            x: self.x - b.x,
+            y: self.y - b.y,
+            z: self.z - b.z,
+        }
     }
 }
 
-// a + b
-pub fn sum(a: Vector, b: Vector) -> Vector
-    ensures { result ≡ sum_of a b }
-{
-    Vector {
-        x: a.x + b.x,
-        y: a.y + b.y,
-        z: a.z + b.z,
+impl Div<f64> for Vector {
+    type Output = Vector;
+
+    ghost div_gives = { λ a k r. r ≡ divided_of a k };
+
+    fn div(self, k: f64) -> Vector {
+        Vector {
+            x: self.x / k,
+            y: self.y / k,
+            z: self.z / k,
+        }
     }
 }
 
-// a − b
-pub fn difference(a: Vector, b: Vector) -> Vector
-    ensures { result ≡ difference_of a b }
-{
-    Vector {
-        x: a.x - b.x,
-        y: a.y - b.y,
-        z: a.z - b.z,
-    }
-}
+impl Neg for Vector {
+    type Output = Vector;
 
-// a/k
-pub fn divided(a: Vector, k: f64) -> Vector
-    ensures { result ≡ divided_of a k }
-{
-    Vector {
-        x: a.x / k,
-        y: a.y / k,
-        z: a.z / k,
-    }
-}
+    ghost neg_gives = { λ a r. r ≡ negated_of a };
 
-// −a
-pub fn negated(a: Vector) -> Vector
-    ensures { result ≡ negated_of a }
-{
-    Vector {
-        x: -a.x,
-        y: -a.y,
-        z: -a.z,
+    fn neg(self) -> Vector {
+        Vector {
+            x: -self.x,
+            y: -self.y,
+            z: -self.z,
+        }
     }
 }

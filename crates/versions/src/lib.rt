@@ -5,8 +5,8 @@ ghost use Rattle.text.specs.Text.{InFront};
 ghost use Rattle.text.specs.Pieces.{Laid};
 ghost use Rattle.versions.specs.Versions.{constant_pieces, version_pieces, looked_pieces, version_lines, list_pieces, show_room, show_text, list_room, list_text};
 
-use settings::{Looked, Setting};
-use text::Made;
+use refusal::Refusal;
+use settings::Setting;
 
 fn constants(buf: &mut [u8], at: usize, x: Setting) -> usize
     ensures { Laid buf.old at (constant_pieces x) buf.new result }
@@ -33,23 +33,23 @@ fn version(buf: &mut [u8], at: usize, k: u64, x: Setting) -> usize
     constants(buf, d, x)
 }
 
-fn looked(buf: &mut [u8], k: u64, l: Looked) -> usize
+fn looked(buf: &mut [u8], k: u64, l: Result<Setting, Refusal>) -> usize
     ensures { Laid buf.old 0 (looked_pieces k l) buf.new result }
 {
     match l {
-        Looked::Found(x) => version(buf, 0, k, x),
-        Looked::Refused(n) => columns::refused(buf, n),
+        Ok(x) => version(buf, 0, k, x),
+        Err(refusal) => columns::refused(buf, refusal),
     }
 }
 
 // The line of version k of a used part, or of the refusal: its length, or 15 for a buffer of under 512 bytes.
-pub fn show(s: &[u8], k: u64, buf: &mut [u8]) -> Made
+pub fn show(s: &[u8], k: u64, buf: &mut [u8]) -> Result<usize, Refusal>
     ensures { InFront show_room (show_text s.now k) buf.old buf.new result }
 {
     if buf.len() < 512 {
-        return Made::Refused(15);
+        return Err(Refusal::NoRoom);
     }
-    Made::Line(looked(buf, k, settings::look_up(s, k)))
+    Ok(looked(buf, k, settings::look_up(s, k)))
 }
 
 // The versions of a used part one after another, up to the first that is refused.
@@ -57,14 +57,10 @@ fn lines(s: &[u8], buf: &mut [u8]) -> usize
     ensures { Laid buf.old 0 (version_lines 64 1 s.now) buf.new result }
 {
     let mut e = 0;
-    let mut k: u64 = 1;
-    while k <= 64 {
+    for k in 1..=64 {
         match settings::look_up(s, k) {
-            Looked::Found(x) => {
-                e = version(buf, e, k, x);
-                k += 1;
-            }
-            Looked::Refused(_) => return e,
+            Ok(x) => e = version(buf, e, k, x),
+            Err(_) => return e,
         }
     }
     e
@@ -74,22 +70,20 @@ fn listed(s: &[u8], buf: &mut [u8]) -> usize
     ensures { Laid buf.old 0 (list_pieces s.now) buf.new result }
 {
     match settings::look_up(s, 1) {
-        Looked::Found(_) => lines(s, buf),
-        Looked::Refused(n) => {
-            if n == 23 {
-                return 0;
-            }
-            columns::refused(buf, n)
-        }
+        Ok(_) => lines(s, buf),
+        Err(refusal) => match refusal {
+            Refusal::NoVersion => 0,
+            _ => columns::refused(buf, refusal),
+        },
     }
 }
 
 // A line a version, or the line of the refusal: their length, or 15 for a buffer of under 16,384 bytes.
-pub fn list(s: &[u8], buf: &mut [u8]) -> Made
+pub fn list(s: &[u8], buf: &mut [u8]) -> Result<usize, Refusal>
     ensures { InFront list_room (list_text s.now) buf.old buf.new result }
 {
     if buf.len() < 16384 {
-        return Made::Refused(15);
+        return Err(Refusal::NoRoom);
     }
-    Made::Line(listed(s, buf))
+    Ok(listed(s, buf))
 }

@@ -1,4 +1,7 @@
 -- Every line fits 512 bytes. Assumes nothing.
+use Rattle.std.specs.Prelude.{Err, Ok, Result}
+use Rattle.refusal.specs.Refusals.{number_of}
+use Rattle.refusal.specs.declared.Refusal.{Refusal}
 use Prim.Native.Nat.{◌≤◌}
 use native.Mathlib.Omega.{arith}
 use mathlib.Core.List.{[], ◌∷◌}
@@ -7,11 +10,7 @@ use Rattle.text.specs.Text.{ascii}
 use Rattle.text.proofs.Lays.{size, concat-append}
 use Rattle.columns.proofs.RowLaws.{end_short, labelled-short, refused-fits}
 use Rattle.wheel.specs.declared.Direction.{Direction}
-use Rattle.wheel.specs.declared.Elevation.{Elevation}
-use Rattle.wheel.specs.declared.Elevation.TheVariants as E
 use Rattle.sight.specs.declared.Points.{Points}
-use Rattle.sight.specs.declared.Sight.{Sight}
-use Rattle.sight.specs.declared.Sight.TheVariants as S
 use Rattle.views.specs.Views.{direction_pieces, points_pieces, wheel_pieces, sight_pieces}
 
 direction-short : (d : Direction) → size (direction_pieces d) ≤ 512
@@ -34,10 +33,10 @@ points-short p =
       end_short (p.larger ∷ p.smaller ∷ f.x ∷ f.y ∷ f.z ∷ s.x ∷ s.y ∷ s.z ∷ []),
     ))
 
-pub wheel-fits : (a : Elevation) → size (wheel_pieces a) ≤ 512
-wheel-fits (E.Angle d) = direction-short d
-wheel-fits (E.Refused n) = refused-fits n
+pub wheel-fits : (a : Result Direction Refusal) → size (wheel_pieces a) ≤ 512
+wheel-fits (Ok d) = direction-short d
+wheel-fits (Err n) = refused-fits (number_of n)
 
-pub sight-fits : (a : Sight) → size (sight_pieces a) ≤ 512
-sight-fits (S.Crossed p) = points-short p
-sight-fits (S.Refused n) = refused-fits n
+pub sight-fits : (a : Result Points Refusal) → size (sight_pieces a) ≤ 512
+sight-fits (Ok p) = points-short p
+sight-fits (Err n) = refused-fits (number_of n)

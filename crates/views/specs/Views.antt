@@ -1,13 +1,11 @@
 -- The answers of the thumbwheel and of the sight line as lines, piece by piece. Assumes nothing: these are definitions.
-use Rattle.std.specs.Prelude.{ℕ, List, [], ◌∷◌, ◌++◌}
+use Rattle.refusal.specs.declared.Refusal.{Refusal}
+use Rattle.std.specs.Prelude.{ℕ, List, [], ◌∷◌, ◌++◌, Err, Ok, Result}
+use Rattle.refusal.specs.Refusals.{number_of}
 use Rattle.text.specs.Text.{ascii}
 use Rattle.columns.specs.Rows.{labelled_pieces, end_pieces, refused_pieces}
 use Rattle.wheel.specs.declared.Direction.{Direction}
-use Rattle.wheel.specs.declared.Elevation.{Elevation}
-use Rattle.wheel.specs.declared.Elevation.TheVariants as E
 use Rattle.sight.specs.declared.Points.{Points}
-use Rattle.sight.specs.declared.Sight.{Sight}
-use Rattle.sight.specs.declared.Sight.TheVariants as S
 
 -- `sine D cosine D bits X X`
 unfoldable pub direction_pieces : Direction → List (List ℕ)
@@ -24,10 +22,10 @@ points_pieces p =
     ++ (labelled_pieces (ascii " second") (s.x ∷ s.y ∷ s.z ∷ [])
     ++ end_pieces (p.larger ∷ p.smaller ∷ f.x ∷ f.y ∷ f.z ∷ s.x ∷ s.y ∷ s.z ∷ [])))
 
-abbrev pub wheel_pieces : Elevation → List (List ℕ)
-wheel_pieces (E.Angle d) = direction_pieces d
-wheel_pieces (E.Refused n) = refused_pieces n
+abbrev pub wheel_pieces : Result Direction Refusal → List (List ℕ)
+wheel_pieces (Ok d) = direction_pieces d
+wheel_pieces (Err n) = refused_pieces (number_of n)
 
-abbrev pub sight_pieces : Sight → List (List ℕ)
-sight_pieces (S.Crossed p) = points_pieces p
-sight_pieces (S.Refused n) = refused_pieces n
+abbrev pub sight_pieces : Result Points Refusal → List (List ℕ)
+sight_pieces (Ok p) = points_pieces p
+sight_pieces (Err n) = refused_pieces (number_of n)

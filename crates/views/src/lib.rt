@@ -5,8 +5,9 @@
 ghost use Rattle.text.specs.Pieces.{Laid};
 ghost use Rattle.views.specs.Views.{direction_pieces, points_pieces, wheel_pieces, sight_pieces};
 
-use sight::{Points, Sight};
-use wheel::{Direction, Elevation};
+use refusal::Refusal;
+use sight::Points;
+use wheel::Direction;
 
 fn direction(buf: &mut [u8], d: Direction) -> usize
     ensures { Laid buf.old 0 (direction_pieces d) buf.new result }
@@ -35,21 +36,21 @@ fn points(buf: &mut [u8], p: Points) -> usize
 }
 
 // The thumbwheel's.
-pub fn tell_wheel(buf: &mut [u8], a: Elevation) -> usize
+pub fn tell_wheel(buf: &mut [u8], a: Result<Direction, Refusal>) -> usize
     ensures { Laid buf.old 0 (wheel_pieces a) buf.new result }
 {
     match a {
-        Elevation::Angle(d) => direction(buf, d),
-        Elevation::Refused(n) => columns::refused(buf, n),
+        Ok(d) => direction(buf, d),
+        Err(n) => columns::refused(buf, n),
     }
 }
 
 // The sight line's.
-pub fn tell_sight(buf: &mut [u8], a: Sight) -> usize
+pub fn tell_sight(buf: &mut [u8], a: Result<Points, Refusal>) -> usize
     ensures { Laid buf.old 0 (sight_pieces a) buf.new result }
 {
     match a {
-        Sight::Crossed(p) => points(buf, p),
-        Sight::Refused(n) => columns::refused(buf, n),
+        Ok(p) => points(buf, p),
+        Err(n) => columns::refused(buf, n),
     }
 }

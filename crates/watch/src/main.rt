@@ -8,13 +8,12 @@ ghost use Rattle.watch.specs.Feeds.{Feeds};
 use session::Place;
 use std::io::Read;
 use stream::{Standing, Step};
-use text::Made;
 
 fn write_heading(rt: &(impl Print + Eprint)) -> bool {
     let mut line = [0u8; 40];
     match lines::heading(&mut line) {
-        Made::Line(n) => console::print(rt, &line[..n]),
-        Made::Refused(_) => false,
+        Ok(n) => console::print(rt, &line[..n]),
+        Err(_) => false,
     }
 }
 
@@ -22,20 +21,18 @@ fn write_heading(rt: &(impl Print + Eprint)) -> bool {
 fn write_step(rt: &(impl Print + Eprint), step: Step) -> bool {
     let mut line = [0u8; 40];
     match follow::step_line(&mut line, step) {
-        Made::Line(n) => console::print(rt, &line[..n]),
-        Made::Refused(_) => false,
+        Ok(n) => console::print(rt, &line[..n]),
+        Err(_) => false,
     }
 }
 
-// Where the reader stands behind some input; or something could not be read or written, and standard error says what.
-#[derive(Clone, Copy)]
-enum Fed {
-    Read(Standing),
-    Failed,
-}
-
 // Lists the records that end in the input.
-fn feed(rt: &(impl Print + Eprint), state: Standing, room: &mut [u8], input: &[u8]) -> Fed
+fn feed(
+    rt: &(impl Print + Eprint),
+    state: Standing,
+    room: &mut [u8],
+    input: &[u8],
+) -> Option<Standing>
     ensures { Feeds state room.old input.now room.new result }
 {
     let mut x = state;
@@ -43,18 +40,14 @@ fn feed(rt: &(impl Print + Eprint), state: Standing, room: &mut [u8], input: &[u
     loop {
         let step = stream::take_next(x, room, input, from);
         if !write_step(rt, step) {
-            return Fed::Failed;
+            return None;
         }
         match step {
-            Step::Record(_, place, at) => {
+            Step::Record(_, place, at) | Step::Offset(place, at) => {
                 x = Standing::Open(place, 0);
                 from = at;
             }
-            Step::Offset(place, at) => {
-                x = Standing::Open(place, 0);
-                from = at;
-            }
-            Step::Stopped(y) => return Fed::Read(y),
+            Step::Stopped(y) => return Some(y),
         }
     }
 }
@@ -65,26 +58,22 @@ fn take_some(
     from: &mut impl Read,
     state: Standing,
     room: &mut [u8],
-) -> Fed {
+) -> Option<Standing> {
     let mut input = [0u8; 65536];
     let got = console::read_some(rt, from, &mut input);
     if got.failed {
-        return Fed::Failed;
+        return None;
     }
     if got.length == 0 {
         let last = stream::finish(state);
         write_step(rt, Step::Stopped(last));
-        return Fed::Read(last);
+        return Some(last);
     }
     feed(rt, state, room, &input[..got.length])
 }
 
 fn is_open(state: Standing) -> bool {
-    match state {
-        Standing::Open(_, _) => true,
-        Standing::Refused(_, _) => false,
-        Standing::Ended => false,
-    }
+    matches!(state, Standing::Open(_, _))
 }
 
 // A proved loop has to end, and nothing says that the input does: the turns are counted up to a number that no run
@@ -97,7 +86,7 @@ fn main(rt: HostRuntime) {
     let mut room = [0u8; 62];
     let mut state = Standing::Open(Place { at: 0, offset: 0 }, 0);
     for _ in 0..u64::MAX {
-        let Fed::Read(x) = take_some(&rt, &mut from, state, &mut room) else {
+        let Some(x) = take_some(&rt, &mut from, state, &mut room) else {
             return;
         };
         if !is_open(x) {

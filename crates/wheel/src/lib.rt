@@ -6,17 +6,13 @@ mod table;
 ghost use Rattle.std.specs.Prelude.{◌≡◌, ◌<◌};
 ghost use Rattle.wheel.specs.Wheel.{on_by, signed_sine, over_of, direction_of, wheel_of};
 
+use refusal::Refusal;
+
 // Signed entries over 2^30.
 #[derive(Clone, Copy)]
 pub struct Direction {
     pub sine: f64,
     pub cosine: f64,
-}
-
-#[derive(Clone, Copy)]
-pub enum Elevation {
-    Angle(Direction),
-    Refused(u32),
 }
 
 // The signed entry at e.
@@ -63,11 +59,11 @@ fn direction_at(e: u64) -> Direction
 }
 
 // The direction at e tenths of a degree. Refused: 16 for e over 3,599.
-pub fn wheel(e: u64) -> Elevation
+pub fn wheel(e: u64) -> Result<Direction, Refusal>
     ensures { result ≡ wheel_of e }
 {
     if e < 3600 {
-        return Elevation::Angle(direction_at(e));
+        return Ok(direction_at(e));
     }
-    Elevation::Refused(16)
+    Err(Refusal::ElevationOutOfRange)
 }

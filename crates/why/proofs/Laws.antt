@@ -1,4 +1,6 @@
 -- Why and the solve cannot disagree: the reason's number is that of the solve's own answer, for every input. Assumes nothing.
+use Rattle.std.specs.Prelude.{Err, Ok, Result}
+use Rattle.table.specs.declared.Entry.{Entry}
 use Prim.Native.Nat.{ℕ}
 use mathlib.Core.Path.{◌≡◌, refl, sym, ◌∙◌}
 use mathlib.Core.Bool.{Bool, true, false, cond}
@@ -6,8 +8,6 @@ use lib.Ieee.{Float}
 use Rattle.real.specs.F64.{size_of}
 use Rattle.vector.specs.declared.Vector.{Vector}
 use Rattle.vector.specs.declared.State.{State}
-use Rattle.table.specs.declared.Test.{Test}
-use Rattle.table.specs.declared.Test.TheVariants.{Passed, Failed}
 use Rattle.table.specs.Tests.{first_failing, test_number}
 use Rattle.iterator.specs.Run.{more}
 use Rattle.iterator.specs.declared.Judgement.{Judgement}
@@ -15,8 +15,6 @@ use Rattle.iterator.specs.declared.Judgement.TheVariants.{Low, High, Under, Over
 use Rattle.iterator.specs.declared.Bracket.{Bracket}
 use Rattle.iterator.specs.declared.Beginning.{Beginning}
 use Rattle.kepler.specs.declared.Motion.{Motion}
-use Rattle.kepler.specs.declared.Arrival.{Arrival}
-use Rattle.kepler.specs.declared.Arrival.TheVariants.{InRange, OutOfRange}
 use Rattle.kepler.specs.Kepler.{turned_of, arrival_of}
 use Rattle.lambert.specs.declared.Way.{Way}
 use Rattle.lambert.specs.declared.Transfer.{Transfer}
@@ -36,20 +34,19 @@ use Rattle.solve.proofs.Halts.{arrival_number, end_number, advance-halts, transf
 use Rattle.reason.specs.declared.Neighbours.{Neighbours}
 use Rattle.reason.specs.declared.Reason.TheVariants as R
 use Rattle.reason.specs.Reasons.{reason_number}
-use Rattle.why.specs.declared.Told.TheVariants as T
 use Rattle.why_direct.specs.Why.{reached_reason, time_reason, why_time, test_reason, why_apsides}
 use Rattle.why.specs.Why.{neighbours_of, told_by, told_of, arrival_reason, told_advance, velocity_reason, told_transfer, advance_reason, why_advance, transfer_reason, why_transfer}
 use Rattle.why.proofs.Stops.{Stops, reach-stops}
 
-arrival : (r : Arrival) (n : Neighbours) → reason_number (arrival_reason r n) ≡ arrival_number r
+arrival : (r : Result State Entry) (n : Neighbours) → reason_number (arrival_reason r n) ≡ arrival_number r
 unfolding reason_number arrival_reason
-arrival (InRange s) n = refl
-arrival (OutOfRange e) n = refl
+arrival (Ok s) n = refl
+arrival (Err e) n = refl
 
-range : (r : Test) (n : Neighbours) → reason_number (velocity_reason r n) ≡ test_number r
+range : (r : Result Unit Entry) (n : Neighbours) → reason_number (velocity_reason r n) ≡ test_number r
 unfolding reason_number velocity_reason test_number
-range Passed n = refl
-range (Failed e) n = refl
+range (Ok tt) n = refl
+range (Err e) n = refl
 
 module _ (m : Motion) (from : State) (b : Bracket) where
   by-ends : (p q : Judgement) → reason_number (told_advance m from (told_by (Kepler m) b p q)) ≡ end_number 7 (arrival_number (arrival_of m from b.lo)) p q
@@ -66,7 +63,7 @@ module _ (m : Motion) (from : State) (b : Bracket) where
   unfolding reason_number told_advance told_of
   arrived-number = go (more b)
     where
-      go : (k : Bool) → reason_number (told_advance m from (cond k (T.Not (R.NotFinished b)) (told_by (Kepler m) b b.below b.above))) ≡ cond k 29 (end_number 7 (arrival_number (arrival_of m from b.lo)) b.below b.above)
+      go : (k : Bool) → reason_number (told_advance m from (cond k (Err (R.NotFinished b)) (told_by (Kepler m) b b.below b.above))) ≡ cond k 29 (end_number 7 (arrival_number (arrival_of m from b.lo)) b.below b.above)
       go true = refl
       go false = by-ends b.below b.above
 
@@ -85,7 +82,7 @@ module _ (d : Transfer) (b : Bracket) where
   unfolding reason_number told_transfer told_of
   moved-number = go (more b)
     where
-      go : (k : Bool) → reason_number (told_transfer d (cond k (T.Not (R.NotFinished b)) (told_by (Lambert d) b b.below b.above))) ≡ cond k 29 (end_number 8 (test_number (first_failing (result_row (velocity_at d b.lo)))) b.below b.above)
+      go : (k : Bool) → reason_number (told_transfer d (cond k (Err (R.NotFinished b)) (told_by (Lambert d) b b.below b.above))) ≡ cond k 29 (end_number 8 (test_number (first_failing (result_row (velocity_at d b.lo)))) b.below b.above)
       go true = refl
       go false = by-sides b.below b.above
 
@@ -117,13 +114,13 @@ time-number mu s sin cos = go (first_failing (Th.theta_tests mu s sin cos (Th.sw
     by-reach (H.Under e) h = unfold reason_number reached_reason Th.transfer_time_number Th.transfer_time_by in h.0
     by-reach (H.Over e) h = unfold reason_number reached_reason Th.transfer_time_number Th.transfer_time_by in h.0
 
-    go : (p : Test) (r : Reached) → Stops r → reason_number (time_reason p r) ≡ Th.transfer_time_number (Th.answered p (Th.transfer_time_by s r))
-    go (Failed e) r h = refl
-    go Passed r h = by-reach r h
+    go : (p : Result Unit Entry) (r : Reached) → Stops r → reason_number (time_reason p r) ≡ Th.transfer_time_number (Th.answered p (Th.transfer_time_by s r))
+    go (Err e) r h = refl
+    go (Ok tt) r h = by-reach r h
 
 pub apsides_number_lem : (mu : Float) (s : State) → reason_number (why_apsides mu s) ≡ Aps.apsides_number (Aps.apsides_of mu s)
 apsides_number_lem mu s = go (first_failing (Aps.apsides_tests mu s (Aps.shape_of mu s))) ∙ sym (answered-number (first_failing (Aps.apsides_tests mu s (Aps.shape_of mu s))) (Aps.shape_of mu s))
   where
-    go : (p : Test) → reason_number (test_reason p) ≡ test_number p
-    go Passed = unfold reason_number test_reason test_number in refl
-    go (Failed e) = unfold reason_number test_reason test_number in refl
+    go : (p : Result Unit Entry) → reason_number (test_reason p) ≡ test_number p
+    go (Ok tt) = unfold reason_number test_reason test_number in refl
+    go (Err e) = unfold reason_number test_reason test_number in refl

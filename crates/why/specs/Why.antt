@@ -1,9 +1,8 @@
 -- Why a solve refuses, or that it does not (T-07), from the solve's own tests and trials. Assumes nothing: these are definitions.
-use Rattle.std.specs.Prelude.{ℕ, cond, Float}
+use Rattle.table.specs.declared.Entry.{Entry}
+use Rattle.std.specs.Prelude.{ℕ, cond, Float, Err, Ok, Result}
 use Rattle.vector.specs.declared.Vector.{Vector}
 use Rattle.vector.specs.declared.State.{State}
-use Rattle.table.specs.declared.Test.{Test}
-use Rattle.table.specs.declared.Test.TheVariants.{Passed, Failed}
 use Rattle.table.specs.Tests.{first_failing}
 use Rattle.iterator.specs.Run.{more}
 use Rattle.iterator.specs.declared.Judgement.{Judgement}
@@ -11,8 +10,6 @@ use Rattle.iterator.specs.declared.Judgement.TheVariants.{Low, High, Under, Over
 use Rattle.iterator.specs.declared.Bracket.{Bracket}
 use Rattle.iterator.specs.declared.Beginning.{Beginning}
 use Rattle.kepler.specs.declared.Motion.{Motion}
-use Rattle.kepler.specs.declared.Arrival.{Arrival}
-use Rattle.kepler.specs.declared.Arrival.TheVariants.{InRange, OutOfRange}
 use Rattle.kepler.specs.Kepler.{turned_of, arrival_of}
 use Rattle.lambert.specs.declared.Way.{Way}
 use Rattle.lambert.specs.declared.Transfer.{Transfer}
@@ -26,8 +23,6 @@ use Rattle.trials.specs.declared.Ended.TheVariants as E
 use Rattle.reason.specs.declared.Neighbours.{Neighbours}
 use Rattle.reason.specs.declared.Reason.{Reason}
 use Rattle.reason.specs.declared.Reason.TheVariants as R
-use Rattle.why.specs.declared.Told.{Told}
-use Rattle.why.specs.declared.Told.TheVariants as T
 
 -- 8 where the lower neighbour has no time, and what stopped it; Kepler's always has one, and the solve's number there is 7
 abbrev pub short_by : Problem → Bracket → Reason
@@ -42,36 +37,36 @@ abbrev pub neighbours_of : Bracket → Float → Float → Neighbours
 neighbours_of b below above = record { lo = b.lo; below = below; hi = b.hi; above = above; count = b.count }
 
 -- by the judgements of the two ends
-unfoldable pub told_by : Problem → Bracket → Judgement → Judgement → Told
-told_by problem b (Low t) (High u) = T.Timed (neighbours_of b t u)
-told_by problem b (Low t) (Low u) = T.Not (long_by problem b)
-told_by problem b (Low t) Under = T.Not (long_by problem b)
-told_by problem b (Low t) Over = T.Not (long_by problem b)
-told_by problem b (High t) above = T.Not (short_by problem b)
-told_by problem b Under above = T.Not (short_by problem b)
-told_by problem b Over above = T.Not (short_by problem b)
+unfoldable pub told_by : Problem → Bracket → Judgement → Judgement → Result Neighbours Reason
+told_by problem b (Low t) (High u) = Ok (neighbours_of b t u)
+told_by problem b (Low t) (Low u) = Err (long_by problem b)
+told_by problem b (Low t) Under = Err (long_by problem b)
+told_by problem b (Low t) Over = Err (long_by problem b)
+told_by problem b (High t) above = Err (short_by problem b)
+told_by problem b Under above = Err (short_by problem b)
+told_by problem b Over above = Err (short_by problem b)
 
 -- 29 while hi − lo > 1
-unfoldable pub told_of : Problem → Bracket → Told
-told_of problem b = cond (more b) (T.Not (R.NotFinished b)) (told_by problem b b.below b.above)
+unfoldable pub told_of : Problem → Bracket → Result Neighbours Reason
+told_of problem b = cond (more b) (Err (R.NotFinished b)) (told_by problem b b.below b.above)
 
 -- 9, of the state at the lower neighbour
-unfoldable pub arrival_reason : Arrival → Neighbours → Reason
-arrival_reason (InRange s) n = R.Between n
-arrival_reason (OutOfRange e) n = R.Test e
+unfoldable pub arrival_reason : Result State Entry → Neighbours → Reason
+arrival_reason (Ok s) n = R.Between n
+arrival_reason (Err e) n = R.Test e
 
-unfoldable pub told_advance : Motion → State → Told → Reason
-told_advance m from (T.Timed n) = arrival_reason (arrival_of m from n.lo) n
-told_advance m from (T.Not r) = r
+unfoldable pub told_advance : Motion → State → Result Neighbours Reason → Reason
+told_advance m from (Ok n) = arrival_reason (arrival_of m from n.lo) n
+told_advance m from (Err r) = r
 
 -- 9, of the velocity there
-unfoldable pub velocity_reason : Test → Neighbours → Reason
-velocity_reason Passed n = R.Between n
-velocity_reason (Failed e) n = R.Test e
+unfoldable pub velocity_reason : Result Unit Entry → Neighbours → Reason
+velocity_reason (Ok tt) n = R.Between n
+velocity_reason (Err e) n = R.Test e
 
-unfoldable pub told_transfer : Transfer → Told → Reason
-told_transfer d (T.Timed n) = velocity_reason (first_failing (result_row (velocity_at d n.lo))) n
-told_transfer d (T.Not r) = r
+unfoldable pub told_transfer : Transfer → Result Neighbours Reason → Reason
+told_transfer d (Ok n) = velocity_reason (first_failing (result_row (velocity_at d n.lo))) n
+told_transfer d (Err r) = r
 
 -- ---- the two solves
 

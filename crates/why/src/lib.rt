@@ -7,20 +7,12 @@ ghost use Rattle.iterator.specs.Run.{more};
 ghost use Rattle.why.specs.Why.{short_by, told_of, told_advance, told_transfer, why_advance, why_transfer};
 
 use iterator::{Beginning, Bracket, Judgement};
-use kepler::{Arrival, Motion};
+use kepler::Motion;
 use lambert::{Transfer, Way};
 use problem::Problem;
 use reason::{Neighbours, Reason};
-use table::Test;
 use trials::Ended;
 use vector::{State, Vector};
-
-// The neighbours with their times, or why there are no two.
-#[derive(Clone, Copy)]
-enum Told {
-    Timed(Neighbours),
-    Not(Reason),
-}
 
 // The lower neighbour has no time. Kepler's always has one, so that its case does not come up; the solve answers 7 there.
 fn short_of(problem: Problem, b: Bracket) -> Reason
@@ -34,22 +26,22 @@ fn short_of(problem: Problem, b: Bracket) -> Reason
 }
 
 // What the bracket that the trials end on comes to.
-fn tell(problem: Problem, b: Bracket) -> Told
+fn tell(problem: Problem, b: Bracket) -> Result<Neighbours, Reason>
     requires { more_left b.lo b.hi ≡ more b }
     ensures { result ≡ told_of problem b }
 {
     if iterator::more_left(b.lo, b.hi) {
-        return Told::Not(Reason::NotFinished(b));
+        return Err(Reason::NotFinished(b));
     }
     let lower = b.below;
     let upper = b.above;
     let Judgement::Low(below) = lower else {
-        return Told::Not(short_of(problem, b));
+        return Err(short_of(problem, b));
     };
     let Judgement::High(above) = upper else {
-        return Told::Not(Reason::TooLong(b, problem::stop_at(problem, b.hi)));
+        return Err(Reason::TooLong(b, problem::stop_at(problem, b.hi)));
     };
-    Told::Timed(Neighbours {
+    Ok(Neighbours {
         lo: b.lo,
         below,
         hi: b.hi,
@@ -59,32 +51,35 @@ fn tell(problem: Problem, b: Bracket) -> Told
 }
 
 // Row 9 of the state at the lower neighbour.
-fn told_advance(m: Motion, from: State, x: Told) -> Reason
+#[tactic(auto, unfolding(crate::specs::Why::told_advance, crate::specs::Why::arrival_reason))]
+fn told_advance(m: Motion, from: State, x: Result<Neighbours, Reason>) -> Reason
     ensures { result ≡ told_advance m from x }
 {
     match x {
-        Told::Not(r) => r,
-        Told::Timed(n) => match kepler::arrive(m, from, n.lo) {
-            Arrival::InRange(_) => Reason::Between(n),
-            Arrival::OutOfRange(e) => Reason::Test(e),
+        Err(r) => r,
+        Ok(n) => match kepler::arrive(m, from, n.lo) {
+            Ok(_) => Reason::Between(n),
+            Err(e) => Reason::Test(e),
         },
     }
 }
 
 // Row 9 of the velocity there.
-fn told_transfer(d: Transfer, x: Told) -> Reason
+#[tactic(auto, unfolding(crate::specs::Why::told_transfer, crate::specs::Why::velocity_reason))]
+fn told_transfer(d: Transfer, x: Result<Neighbours, Reason>) -> Reason
     ensures { result ≡ told_transfer d x }
 {
     match x {
-        Told::Not(r) => r,
-        Told::Timed(n) => match lambert::result_row(lambert::velocity_at(d, n.lo)) {
-            Test::Passed => Reason::Between(n),
-            Test::Failed(e) => Reason::Test(e),
+        Err(r) => r,
+        Ok(n) => match lambert::result_row(lambert::velocity_at(d, n.lo)) {
+            Ok(()) => Reason::Between(n),
+            Err(f) => Reason::Test(f),
         },
     }
 }
 
 // Of an advance.
+#[tactic(auto, unfolding(crate::specs::Why::advance_reason))]
 pub fn advance(mu: f64, s: State, t: f64, limit: u64, g: Beginning) -> Reason
     ensures { result ≡ why_advance mu s t limit g }
 {
@@ -100,6 +95,7 @@ pub fn advance(mu: f64, s: State, t: f64, limit: u64, g: Beginning) -> Reason
 }
 
 // Of a transfer velocity.
+#[tactic(auto, unfolding(crate::specs::Why::transfer_reason))]
 pub fn transfer_velocity(
     mu: f64,
     first: Vector,

@@ -1,16 +1,20 @@
 -- Laws of a search: what is passed, and what is found. Assumes nothing.
 use Prim.Native.Nat.{ℕ, zero, suc, ◌+◌, ◌-◌, ◌≤◌, ◌<◌, zero-le, suc-le-suc}
-use native.Mathlib.Nat.{sub_self, zero-add, suc-add}
-use native.Mathlib.Numerals.{add-one}
+use native.Mathlib.Nat.{zero-add, suc-add}
+use native.Mathlib.Numerals.{add-one, one-add}
 use native.Mathlib.Omega.{arith}
 use mathlib.Core.Path.{◌≡◌, refl, sym, ap, ◌∙◌}
-use mathlib.Core.List.{List, [], ◌∷◌, ◌++◌, append-nil, append_assoc}
-use mathlib.Core.Bool.{Bool, true, false, cond, ◌&&◌, true≢false}
+use mathlib.Core.List.{List, [], ◌∷◌}
+use mathlib.Core.Bool.{Bool, true, false, not, cond, ◌&&◌, true≢false}
 use lib.ListN.{length, get_or, take, drop, length-drop, drop_of_length-le}
-use lib.Seq.{drop-cons, take-suc, take_all, get_or-drop}
-use lib.Dec.{eqb}
-use borrow.Author.Tests.{eq-eqb, ne_eqb, eqb-true}
+use lib.Seq.{drop-cons, take_all}
+use Rattle.std.proofs.lemmas.List.{drop-drop}
+use lib.Dec.{eqb, ltb, eqb-zero-suc, eqb-suc-zero, eqb-suc-suc}
+use lib.Pointwise.{pointwise}
+use borrow.Author.Tests.{eq-eqb, ne_eqb, eqb-true, ltb-false}
 use Rattle.facts.proofs.Truth.{each, and-1}
+use Rattle.std.specs.Prelude.{None, Some}
+use Rattle.std.specs.List.{position, position_or_len}
 use Rattle.words.specs.declared.Byte.{Byte}
 use Rattle.words.specs.declared.Byte.TheVariants.{Blank, NotBlank}
 use Rattle.words.specs.Words.{is_of, up_to, from, from_word, word_at, starts_with, is_word}
@@ -20,75 +24,76 @@ use Rattle.words.specs.Found.{Found}
 pub step : (l : List ℕ) (i : ℕ) → i < length l → drop i l ≡ get_or l i 0 ∷ drop (i + 1) l
 step l i h = rw (add-one, drop-cons l i 0)
 
-from_cons : (c : Byte) (b : ℕ) (s : List ℕ) (t : Bool) → is_of c b ≡ t → from c (b ∷ s) ≡ cond t (b ∷ s) (from c s)
-unfolding from
-from_cons c b s t e = rw e
-
-upTo-cons : (c : Byte) (b : ℕ) (s : List ℕ) (t : Bool) → is_of c b ≡ t → up_to c (b ∷ s) ≡ cond t [] (b ∷ up_to c s)
-unfolding up_to
-upTo-cons c b s t e = rw e
-
-pub from-nil : (c : Byte) → from c [] ≡ []
-unfolding from
-from-nil c = refl
+-- what `&s[k..]` lends
+pub rest_of : (k : ℕ) (s : List ℕ) → take (length s - k) (drop k s) ≡ drop k s
+rest_of k s = take_all (length s - k) (drop k s) (simp length-drop (omega arith))
 
 pub upTo-nil : (c : Byte) → up_to c [] ≡ []
 unfolding up_to
 upTo-nil c = refl
 
--- no such byte from at up to i
-pub record Passed (c : Byte) (s : List ℕ) (at i : ℕ) : Type 0 where
-  pub behind : at ≤ i
-  pub within : i ≤ length s
-  pub passed : take (i - at) (drop at s) ++ up_to c (drop i s) ≡ up_to c (drop at s)
-  pub rest : from c (drop i s) ≡ from c (drop at s)
+-- how many bytes stand before the first such byte
+abbrev pub count : Byte → List ℕ → ℕ
+count c s = position_or_len (is_of c) s
 
-pub start : (c : Byte) (s : List ℕ) (at : ℕ) → at ≤ length s → Passed c s at at
-start c s at h = record { behind = omega arith; within = h; passed = rw sub_self refl; rest = refl }
+count-within : (c : Byte) (s : List ℕ) → count c s ≤ length s
+count-within c [] = zero-le
+count-within c (b ∷ s) = go (is_of c b) (count-within c s)
+  where
+    go : (t : Bool) → count c s ≤ length s → cond (not t) (1 + count c s) 0 ≤ suc (length s)
+    go true h = zero-le
+    go false h = omega arith
 
-pub more : (c : Byte) (s : List ℕ) (at i : ℕ) → Passed c s at i → i < length s → is_of c (get_or s i 0) ≡ false → Passed c s at (i + 1)
-more c s at i p h e =
-    let b = get_or s i 0 in
-    let n : i + 1 - at ≡ suc (i - at) = omega (arith, p.behind) in
-    let k : at + (i - at) ≡ i = omega (arith, p.behind) in
-    let g : get_or (drop at s) (i - at) 0 ≡ b = get_or-drop at s (i - at) 0 ∙ ap (λ (j : ℕ). get_or s j 0) k in
-    let l : i - at < length (drop at s) = simp length-drop (omega (arith, p.behind)) in
-    let t : take (i + 1 - at) (drop at s) ≡ take (i - at) (drop at s) ++ (b ∷ []) =
-    ap (λ (j : ℕ). take j (drop at s)) n ∙ take-suc (drop at s) (i - at) 0 l ∙ ap (λ (a : ℕ). take (i - at) (drop at s) ++ (a ∷ [])) g in
-    let u : up_to c (drop i s) ≡ b ∷ up_to c (drop (i + 1) s) = ap (up_to c) (step s i h) ∙ upTo-cons c b (drop (i + 1) s) false e in
+count-passed : (c : Byte) (s : List ℕ) → take (count c s) s ≡ up_to c s
+unfolding up_to
+count-passed c [] = refl
+count-passed c (b ∷ s) = go (is_of c b) (count-passed c s)
+  where
+    go : (t : Bool) → take (count c s) s ≡ up_to c s → take (cond (not t) (1 + count c s) 0) (b ∷ s) ≡ cond t [] (b ∷ up_to c s)
+    go true h = refl
+    go false h = rw one-add (ap (λ (x : List ℕ). b ∷ x) h)
+
+count-rest : (c : Byte) (s : List ℕ) → drop (count c s) s ≡ from c s
+unfolding from
+count-rest c [] = refl
+count-rest c (b ∷ s) = go (is_of c b) (count-rest c s)
+  where
+    go : (t : Bool) → drop (count c s) s ≡ from c s → drop (cond (not t) (1 + count c s) 0) (b ∷ s) ≡ cond t (b ∷ s) (from c s)
+    go true h = refl
+    go false h = rw one-add h
+
+-- the place that a search from a place on finds
+found : (c : Byte) (s : List ℕ) (at n : ℕ) → at ≤ length s → n ≡ count c (drop at s) → Found c s at (at + n)
+found c s at n h e =
+    let k : n ≤ length (drop at s) = rw e (count-within c (drop at s)) in
+    let m : at + n - at ≡ n = omega arith in
     record {
-      behind = omega (arith, p.behind);
-      within = omega arith;
-      passed =
-          ap (λ (x : List ℕ). x ++ up_to c (drop (i + 1) s)) t
-          ∙ append_assoc (take (i - at) (drop at s)) (b ∷ []) (up_to c (drop (i + 1) s))
-          ∙ ap (λ (x : List ℕ). take (i - at) (drop at s) ++ x) (sym u)
-          ∙ p.passed;
-      rest = sym (from_cons c b (drop (i + 1) s) false e) ∙ ap (from c) (sym (step s i h)) ∙ p.rest;
+      behind = omega arith;
+      within = omega (arith, length-drop at s);
+      passed = rw (m, e) (count-passed c (drop at s));
+      rest = sym (drop-drop n at s) ∙ rw e (count-rest c (drop at s));
     }
 
-pub here : (c : Byte) (s : List ℕ) (at i : ℕ) → Passed c s at i → i < length s → is_of c (get_or s i 0) ≡ true → Found c s at i
-here c s at i p h e =
-    let b = get_or s i 0 in
-    let t = take (i - at) (drop at s) in
-    let u : up_to c (drop i s) ≡ [] = ap (up_to c) (step s i h) ∙ upTo-cons c b (drop (i + 1) s) true e in
-    record {
-      behind = p.behind;
-      within = p.within;
-      passed = sym (append-nil t) ∙ ap (λ (x : List ℕ). t ++ x) (sym u) ∙ p.passed;
-      rest = step s i h ∙ sym (from_cons c b (drop (i + 1) s) true e) ∙ ap (from c) (sym (step s i h)) ∙ p.rest;
-    }
+counted : (t : Bool) (n m : ℕ) → Some n ≡ cond t (Some m) None → n ≡ m
+counted true n m e = cc
+counted false n m e = cc
 
-pub nowhere : (c : Byte) (s : List ℕ) (at i : ℕ) → Passed c s at i → length s ≤ i → Found c s at i
-nowhere c s at i p h =
-    let t = take (i - at) (drop at s) in
-    let z : drop i s ≡ [] = drop_of_length-le s h in
-    record {
-      behind = p.behind;
-      within = p.within;
-      passed = sym (append-nil t) ∙ ap (λ (x : List ℕ). t ++ x) (sym (ap (up_to c) z ∙ upTo-nil c)) ∙ p.passed;
-      rest = z ∙ sym (ap (from c) z ∙ from-nil c) ∙ p.rest;
-    }
+all-passed : (k m : ℕ) → None ≡ cond (ltb m k) (Some m) None → m ≤ k → m ≡ k
+all-passed k m e h = go (ltb m k) refl e
+  where
+    go : (t : Bool) → ltb m k ≡ t → None ≡ cond t (Some m) None → m ≡ k
+    go true g e = cc
+    go false g e = let l : k ≤ m = ltb-false m k g in omega arith
+
+module _ (c : Byte) (s : List ℕ) (at : ℕ) (h : at ≤ length s) where
+  pub found-there : (n : ℕ) → Some n ≡ position (is_of c) (take (length s - at) (drop at s)) → Found c s at (at + n)
+  found-there n e = found c s at n h (counted (ltb (count c (drop at s)) (length (drop at s))) n (count c (drop at s)) (rw rest_of at e))
+
+  pub found-nowhere : None ≡ position (is_of c) (take (length s - at) (drop at s)) → Found c s at (length s)
+  found-nowhere e =
+      let n : count c (drop at s) ≡ length (drop at s) = all-passed _ _ (rw rest_of at e) (count-within c (drop at s)) in
+      let m : at + count c (drop at s) ≡ length s = omega (arith, length-drop at s) in
+      rw m at (found c s at (count c (drop at s)) h refl)
 
 -- ---- words
 
@@ -120,30 +125,50 @@ no_word s i k at h l t =
 
 -- ---- comparing
 
-starts-cons : (a b : ℕ) (s t : List ℕ) (e : Bool) → eqb a b ≡ e → starts_with (a ∷ s) (b ∷ t) ≡ (e && starts_with s t)
-unfolding starts_with
-starts-cons a b s t e h = rw h
-
-pub starts-same : (s t : List ℕ) (i : ℕ) → i < length s → i < length t → get_or s i 0 ≡ get_or t i 0
-    → starts_with (drop i s) (drop i t) ≡ starts_with (drop (i + 1) s) (drop (i + 1) t)
-starts-same s t i h k e =
-    rw (step s i h, step t i k) (starts-cons (get_or s i 0) (get_or t i 0) (drop (i + 1) s) (drop (i + 1) t) true (eq-eqb _ _ e))
-
-pub starts-differs : (s t : List ℕ) (i : ℕ) → i < length s → i < length t → (get_or s i 0 ≡ get_or t i 0 → ⊥) → starts_with (drop i s) (drop i t) ≡ false
-starts-differs s t i h k e =
-    rw (step s i h, step t i k) (starts-cons (get_or s i 0) (get_or t i 0) (drop (i + 1) s) (drop (i + 1) t) false (ne_eqb _ _ e))
-
-pub starts-short : (s t : List ℕ) (i : ℕ) → length s ≤ i → i < length t → starts_with (drop i s) (drop i t) ≡ false
-unfolding starts_with
-starts-short s t i h k = rw (drop_of_length-le s h, step t i k) refl
-
 starts_none : (s : List ℕ) → starts_with s [] ≡ true
 unfolding starts_with
 starts_none [] = refl
 starts_none (a ∷ s) = refl
 
-pub starts-whole : (s t : List ℕ) (i : ℕ) → length t ≤ i → starts_with (drop i s) (drop i t) ≡ true
-starts-whole s t i h = rw (drop_of_length-le t h) (starts_none (drop i s))
+turned : (a b : ℕ) → eqb b a ≡ eqb a b
+turned a b = go (eqb a b) refl
+  where
+    go : (t : Bool) → eqb a b ≡ t → eqb b a ≡ t
+    go true e = eq-eqb b a (sym (eqb-true a b e))
+    go false e = ne_eqb b a (λ h. true≢false (sym (eq-eqb a b (sym h)) ∙ e))
+
+starts_nil : (b : ℕ) (t : List ℕ) → starts_with [] (b ∷ t) ≡ false
+unfolding starts_with
+starts_nil b t = refl
+
+starts_cons : (a b : ℕ) (s t : List ℕ) → (eqb a b && starts_with s t) ≡ starts_with (a ∷ s) (b ∷ t)
+unfolding starts_with
+starts_cons a b s t = refl
+
+-- s starts with t where t is what stands at its front
+pub starts_front : (s t : List ℕ) → pointwise eqb t (take (length t) s) ≡ starts_with s t
+starts_front s [] = sym (starts_none s)
+starts_front [] (b ∷ t) = sym (starts_nil b t)
+starts_front (a ∷ s) (b ∷ t) = rw (turned a b) (ap (λ (x : Bool). eqb a b && x) (starts_front s t) ∙ starts_cons a b s t)
+
+-- the same, with the two in the other order
+pub front_starts : (s t : List ℕ) → pointwise eqb (take (length t) s) t ≡ starts_with s t
+front_starts s [] = sym (starts_none s)
+front_starts [] (b ∷ t) = sym (starts_nil b t)
+front_starts (a ∷ s) (b ∷ t) = ap (λ (x : Bool). eqb a b && x) (front_starts s t) ∙ starts_cons a b s t
+
+-- s is t where each byte is the same
+pub same_bytes : (s t : List ℕ) → pointwise eqb s t ≡ is_word s t
+unfolding is_word starts_with
+same_bytes [] [] = refl
+same_bytes [] (b ∷ t) = rw (eqb-zero-suc (length t)) refl
+same_bytes (a ∷ s) [] = rw (eqb-suc-zero (length s)) refl
+same_bytes (a ∷ s) (b ∷ t) = rw (same_bytes s t, eqb-suc-suc (length s) (length t)) (swapped (eqb a b) (eqb (length s) (length t)) (starts_with s t))
+  where
+    swapped : (x y z : Bool) → (x && (y && z)) ≡ (y && (x && z))
+    swapped true y z = refl
+    swapped false true z = refl
+    swapped false false z = refl
 
 -- what starts with t is as long
 pub starts-long : (s t : List ℕ) → starts_with s t ≡ true → length t ≤ length s
@@ -169,10 +194,6 @@ unfolding is_word
 same_word s t e =
     let p = each (eqb (length s) (length t)) (starts_with s t) e in
     alike s t (eqb-true (length s) (length t) p.0) p.1
-
--- what `&s[k..]` lends
-pub rest_of : (k : ℕ) (s : List ℕ) → take (length s - k) (drop k s) ≡ drop k s
-rest_of k s = take_all (length s - k) (drop k s) (simp length-drop (omega arith))
 
 pub nil : (s : List ℕ) → length s ≡ 0 → s ≡ []
 nil [] h = refl

@@ -2,6 +2,7 @@
 #![tactic(auto)]
 
 ghost use Rattle.std.specs.Prelude.{◌≤◌, ◌≡◌, length};
+ghost use Rattle.std.specs.List.{position};
 ghost use Rattle.words.specs.Words.{is_of, word_at, is_end, starts_with, is_word};
 ghost use Rattle.words.specs.Found.{Found};
 
@@ -16,13 +17,7 @@ pub enum Byte {
 fn is_blank(b: u8) -> bool
     ensures { result ≡ is_of Byte.Blank b }
 {
-    if b == b' ' {
-        return true;
-    }
-    if b == 9 {
-        return true;
-    }
-    b == 13
+    matches!(b, b' ' | 9 | 13)
 }
 
 fn is(c: Byte, b: u8) -> bool
@@ -35,19 +30,22 @@ fn is(c: Byte, b: u8) -> bool
     }
 }
 
+// How many bytes stand before the first such byte, if there is one.
+fn before(s: &[u8], c: Byte) -> Option<usize>
+    ensures { result ≡ position (is_of c) s.now }
+{
+    s.iter().position(|b| is(c, *b))
+}
+
 // The place of the first such byte at or behind a place; the length if there is none.
 fn until(s: &[u8], at: usize, c: Byte) -> usize
     requires { at ≤ length s.now }
     ensures { Found c s.now at result }
 {
-    let mut i = at;
-    while i < s.len() {
-        if is(c, s[i]) {
-            return i;
-        }
-        i += 1;
+    match before(&s[at..], c) {
+        Some(n) => at + n,
+        None => s.len(),
     }
-    i
 }
 
 // The place of the first such byte; the length if there is none.
@@ -62,14 +60,12 @@ pub fn word(s: &[u8], k: u64) -> &[u8]
     ensures { result.now ≡ word_at k s.now }
 {
     let mut at = until(s, 0, Byte::NotBlank);
-    let mut i: u64 = 0;
-    while i < k {
+    for _passed in 0..k {
         if at == s.len() {
             return &s[at..];
         }
         let e = until(s, at, Byte::Blank);
         at = until(s, e, Byte::NotBlank);
-        i += 1;
     }
     let e = until(s, at, Byte::Blank);
     &s[at..e]
@@ -79,32 +75,19 @@ pub fn word(s: &[u8], k: u64) -> &[u8]
 pub fn is_end(line: &[u8], k: u64) -> bool
     ensures { result ≡ is_end k line.now }
 {
-    word(line, k).len() == 0
+    word(line, k).is_empty()
 }
 
 // Whether s starts with t.
 pub fn starts_with(s: &[u8], t: &[u8]) -> bool
     ensures { result ≡ starts_with s.now t.now }
 {
-    let mut i = 0;
-    while i < t.len() {
-        if i >= s.len() {
-            return false;
-        }
-        if s[i] != t[i] {
-            return false;
-        }
-        i += 1;
-    }
-    true
+    s.starts_with(t)
 }
 
 // Whether a word is t.
 pub fn is_word(s: &[u8], t: &[u8]) -> bool
     ensures { result ≡ is_word s.now t.now }
 {
-    if s.len() != t.len() {
-        return false;
-    }
-    starts_with(s, t)
+    s == t
 }

@@ -5,85 +5,64 @@
 ghost use Rattle.std.specs.Prelude.{◌≤◌, length};
 ghost use Rattle.write.specs.Feed.{Inside, Feeds, Holds};
 
-use book::Progress;
+use book::{Ended, Progress};
 use split::Found;
 use std::io::Read;
-use text::Made;
 
 // How much of a line is kept: one byte more than it may have, so that a longer one is known as such.
 const KEPT: usize = 1001;
 
-// What comes of some input: the bytes kept of a line whose newline is still to come, the place behind the records and
-// how many lines were read; or what ended it.
+// Where the program stands between two reads: how many bytes of an unfinished line are kept, and how far the lines before
+// it were entered.
 #[derive(Clone, Copy)]
-enum Fed {
-    Kept(usize, usize, u64),
-    Stopped(Progress),
+struct State {
+    kept: usize,
+    progress: Progress,
 }
 
 // Enters the lines that end in the input.
-fn feed(
-    input: &[u8],
-    line: &mut [u8],
-    kept: usize,
-    session: &mut [u8],
-    at: usize,
-    count: u64,
-) -> Fed
-    requires { (kept ≤ length line.old) × (at ≤ length session.old) }
-    ensures { Inside result (length line.new) (length session.new) × Feeds input.now line.old kept session.old at count line.new session.new result }
+fn feed(input: &[u8], line: &mut [u8], session: &mut [u8], state: State) -> Result<State, Ended>
+    requires { (state.kept ≤ length line.old) × (state.progress.at ≤ length session.old) }
+    ensures { Inside result (length line.new) (length session.new) × Feeds input.now line.old state session.old line.new session.new result }
 {
-    let mut k = kept;
+    let mut kept = state.kept;
+    let mut progress = state.progress;
     let mut from = 0;
-    let mut place = at;
-    let mut n = count;
     loop {
-        match split::next_line(line, k, input, from) {
+        match split::next_line(line, kept, input, from) {
             Found::Line(size, behind) => {
-                match book::add(session, place, n, &line[..size]) {
-                    Progress::Going(a, m) => {
-                        place = a;
-                        n = m;
-                    }
-                    Progress::Unread(l, w) => return Fed::Stopped(Progress::Unread(l, w)),
-                    Progress::Refused(l, x) => return Fed::Stopped(Progress::Refused(l, x)),
-                }
-                k = 0;
+                progress = book::add(session, progress, &line[..size])?;
+                kept = 0;
                 from = behind;
             }
-            Found::Kept(size) => return Fed::Kept(size, place, n),
+            Found::Kept(size) => {
+                return Ok(State {
+                    kept: size,
+                    progress,
+                });
+            }
         }
     }
 }
 
 // Says which line ended it.
-fn complain(rt: &impl Eprint, t: Progress) {
+fn complain(rt: &impl Eprint, ended: Ended) {
     let mut buf = [0u8; 64];
-    match book::tell(t, &mut buf) {
-        Made::Line(n) => console::say(rt, &buf[..n]),
-        Made::Refused(_) => {}
+    if let Ok(n) = book::tell(Err(ended), &mut buf) {
+        console::say(rt, &buf[..n]);
     }
 }
 
 // The end of the input: what is kept is a line with no newline, which may be empty.
-fn finish(rt: &(impl Print + Eprint), session: &mut [u8], at: usize, count: u64, rest: &[u8])
-    requires { at ≤ length session.old }
+fn finish(rt: &(impl Print + Eprint), session: &mut [u8], progress: Progress, rest: &[u8])
+    requires { progress.at ≤ length session.old }
 {
-    let t = book::add(session, at, count, rest);
-    match t {
-        Progress::Going(n, _) => {
-            console::print(rt, &session[..n]);
+    match book::add(session, progress, rest) {
+        Ok(last) => {
+            console::print(rt, &session[..last.at]);
         }
-        Progress::Unread(_, _) => complain(rt, t),
-        Progress::Refused(_, _) => complain(rt, t),
+        Err(ended) => complain(rt, ended),
     }
-}
-
-// What is kept after a read, or the end.
-#[derive(Clone, Copy)]
-enum Taken {
-    More(usize, usize, u64),
-    Done,
 }
 
 // One read, and the lines that it ends.
@@ -91,28 +70,26 @@ fn take_some(
     rt: &(impl Print + Eprint),
     from: &mut impl Read,
     line: &mut [u8],
-    kept: usize,
     session: &mut [u8],
-    at: usize,
-    count: u64,
-) -> Taken
-    requires { (kept ≤ length line.old) × (at ≤ length session.old) }
+    state: State,
+) -> Option<State>
+    requires { (state.kept ≤ length line.old) × (state.progress.at ≤ length session.old) }
     ensures { Holds result (length line.new) (length session.new) }
 {
     let mut input = [0u8; 65536];
     let got = console::read_some(rt, from, &mut input);
     if got.failed {
-        return Taken::Done;
+        return None;
     }
     if got.length == 0 {
-        finish(rt, session, at, count, &line[..kept]);
-        return Taken::Done;
+        finish(rt, session, state.progress, &line[..state.kept]);
+        return None;
     }
-    match feed(&input[..got.length], line, kept, session, at, count) {
-        Fed::Kept(k, a, m) => Taken::More(k, a, m),
-        Fed::Stopped(t) => {
-            complain(rt, t);
-            Taken::Done
+    match feed(&input[..got.length], line, session, state) {
+        Ok(next) => Some(next),
+        Err(ended) => {
+            complain(rt, ended);
+            None
         }
     }
 }
@@ -123,23 +100,14 @@ fn main(rt: HostRuntime) {
     let mut from = rt.stdin();
     let mut line = [0u8; KEPT];
     let mut session = [0u8; 65536];
-    let mut kept = 0;
-    let mut at = 0;
-    let mut count: u64 = 0;
+    let mut state = State {
+        kept: 0,
+        progress: Progress { at: 0, count: 0 },
+    };
     for _ in 0..u64::MAX {
-        let Taken::More(k, a, m) = take_some(
-            &rt,
-            &mut from,
-            &mut line,
-            kept,
-            &mut session,
-            at,
-            count,
-        ) else {
+        let Some(next) = take_some(&rt, &mut from, &mut line, &mut session, state) else {
             return;
         };
-        kept = k;
-        at = a;
-        count = m;
+        state = next;
     }
 }

@@ -1,5 +1,6 @@
 -- Reading what was written gives the record and the next place, and writing what was read changes nothing: once over the
 -- kind. Assumes nothing.
+use Rattle.std.specs.Prelude.{Ok}
 use Prim.Native.Nat.{ℕ, ◌+◌, ◌≤◌}
 use native.Mathlib.Omega.{arith}
 use mathlib.Core.Path.{◌≡◌, refl, sym, ap, ◌∙◌}
@@ -29,7 +30,6 @@ use Rattle.session.proofs.Allowed.{decoded-allowed}
 use Rattle.session.proofs.Progress.{found, reads}
 use Rattle.text.specs.Text.{Stands}
 use Rattle.text.proofs.Stand.{before-place}
-use Rattle.writer.specs.declared.record.Written.TheVariants.{Next}
 use Rattle.writer.specs.Write.{has_room, place_behind, written_of, buffer_of}
 use Rattle.writer.proofs.Cases.{stood}
 
@@ -62,7 +62,7 @@ module _ (d : List ℕ) (at : ℕ) (r : Record) (allow : allowed_in r ≡ true) 
 
 -- a record that was read is written as it stands
 pub write_read : (s : List ℕ) (p : Place) (r : Record) (q : Place) → Bytes s → read_at s p ≡ A.Record r q
-    → (written_of s p.at r ≡ Next q.at) × (buffer_of s p.at r ≡ s)
+    → (written_of s p.at r ≡ Ok q.at) × (buffer_of s p.at r ≡ s)
 write_read s p r q b e =
     let f = found s p r q e in
     let n = f.size in
@@ -77,7 +77,7 @@ write_read s p r q b e =
     let a = (decoded-allowed l (bytes_drop p.at s b) r n f.whole).0 in
     let t = stood (allowed_in r) s p.at (record_length (kind_in r)) (bytes_of r) a i in
     let v : drop (place_behind p.at r) s ≡ drop n l = ap (λ (x : ℕ). drop x s) k ∙ sym (drop-drop n p.at s) in (
-      sym t.0 ∙ ap Next (k ∙ sym f.next),
+      sym t.0 ∙ ap Ok (k ∙ sym f.next),
       sym t.1 ∙ ap (λ (x : List ℕ). take p.at s ++ (x ++ drop (place_behind p.at r) s)) y
           ∙ ap (λ (x : List ℕ). take p.at s ++ (take n l ++ x)) v
           ∙ ap (λ (x : List ℕ). take p.at s ++ x) (take-append-drop n l)

@@ -1,4 +1,6 @@
 -- The laws of Back for the offset's record: what is written is read, and what was read is written as it stands. Assumes nothing.
+use Rattle.std.specs.Prelude.{Ok}
+use Rattle.refusal.specs.declared.Refusal.TheVariants as Refusal
 use Prim.Native.Nat.{ℕ, ◌+◌, ◌≤◌}
 use native.Mathlib.Omega.{arith}
 use mathlib.Core.Path.{◌≡◌, refl, sym, ap, ◌∙◌}
@@ -25,7 +27,6 @@ use Rattle.session.proofs.Offsets.{at_offset}
 use Rattle.session.proofs.OffsetBack.{offset-read-back, offset-write-back}
 use Rattle.text.specs.Text.{Stands}
 use Rattle.text.proofs.Stand.{before-place}
-use Rattle.writer.specs.declared.record.Written.TheVariants.{Next}
 use Rattle.writer.specs.Write.{has_room, offset_may, offset_written, offset_buffer}
 use Rattle.writer.proofs.Laws.{offset-length}
 use Rattle.writer.proofs.Cases.{stood}
@@ -63,7 +64,7 @@ told (D.Offset z) p q e =
 told (D.Refused n) p q e = let w : ◌≡◌ {A = ℕ} 0 1 = cc in let x : ⊥ = omega arith in absurd x
 
 reached : (a b c d : Bool) (t p q : Place) (x : Reading)
-    → cond a (A.Refused 12 t) (cond (not b) (A.Refused 14 p) (cond c (A.Refused 11 p) (cond d A.End x))) ≡ A.Offset q → (a ≡ false) × (x ≡ A.Offset q)
+    → cond a (A.Refused Refusal.WrongLength t) (cond (not b) (A.Refused Refusal.NotAllowed p) (cond c (A.Refused Refusal.CutShort p) (cond d A.End x))) ≡ A.Offset q → (a ≡ false) × (x ≡ A.Offset q)
 reached true b c d t p q x e = let w : ◌≡◌ {A = ℕ} 0 1 = cc in let x : ⊥ = omega arith in absurd x
 reached false false c d t p q x e = let w : ◌≡◌ {A = ℕ} 0 1 = cc in let x : ⊥ = omega arith in absurd x
 reached false true true d t p q x e = let w : ◌≡◌ {A = ℕ} 0 1 = cc in let x : ⊥ = omega arith in absurd x
@@ -82,7 +83,7 @@ offset-found s p q e =
 
 -- an offset that was read is written as it stands
 pub offset-write-read : (s : List ℕ) (p q : Place) → Bytes s → read_at s p ≡ A.Offset q
-    → (offset_written s p.at q.offset ≡ Next q.at) × (offset_buffer s p.at q.offset ≡ s)
+    → (offset_written s p.at q.offset ≡ Ok q.at) × (offset_buffer s p.at q.offset ≡ s)
 offset-write-read s p q b e =
     let f = eqb p.at 0 in
     let l = drop p.at s in
@@ -98,7 +99,7 @@ offset-write-read s p q b e =
     let t = stood (offset_may p.at z) s p.at 8 (offset_bytes z) m i in
     let v : drop (p.at + 8) s ≡ drop 8 l = ap (λ (n : ℕ). drop (n + 8) s) a ∙ sym (ap (λ (n : ℕ). drop 8 (drop n s)) a) in
     let n : p.at + 8 ≡ q.at = ap (λ (n : ℕ). n + 8) a ∙ sym y.2 in (
-      sym t.0 ∙ ap Next n,
+      sym t.0 ∙ ap Ok n,
       sym t.1 ∙ ap (λ (x : List ℕ). take p.at s ++ (x ++ drop (p.at + 8) s)) w
           ∙ ap (λ (x : List ℕ). take p.at s ++ (take 8 l ++ x)) v
           ∙ ap (λ (x : List ℕ). take p.at s ++ x) (take-append-drop 8 l)

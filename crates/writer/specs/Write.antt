@@ -1,5 +1,6 @@
 -- What writing a record at a place of a buffer does. Assumes nothing: these are definitions.
-use Rattle.std.specs.Prelude.{ℕ, ◌+◌, List, ◌++◌, Bool, cond, not, ◌&&◌, length, take, drop, leb, eqb, ℤ}
+use Rattle.refusal.specs.declared.Refusal.{Refusal}
+use Rattle.std.specs.Prelude.{ℕ, ◌+◌, List, ◌++◌, Bool, cond, not, ◌&&◌, length, take, drop, leb, eqb, ℤ, Err, Ok, Result}
 use Rattle.session.specs.declared.record.Record.{Record}
 use Rattle.field.specs.Bytes.{bytes_le}
 use Rattle.session.specs.Kinds.{record_length}
@@ -7,16 +8,14 @@ use Rattle.session.specs.Layout.{kind_in, bytes_of}
 use Rattle.session.specs.Limits.{offset_allowed}
 use Rattle.session.specs.Offset.{offset_bytes}
 use Rattle.session.specs.Decode.{allowed_in}
-use Rattle.writer.specs.declared.record.Written.{Written}
-use Rattle.writer.specs.declared.record.Written.TheVariants.{Next, Refused}
 
 -- n bytes from `at` on lie within the buffer, and within the 65,536 bytes of a session
 abbrev pub has_room : ℕ → ℕ → ℕ → Bool
 has_room at n size = leb (at + n) size && leb (at + n) 65536
 
 -- what is answered for n bytes that may be written or not: 14, then 15, else the place behind them
-abbrev pub written_for : Bool → List ℕ → ℕ → ℕ → Written
-written_for may d at n = cond (not may) (Refused 14) (cond (not (has_room at n (length d))) (Refused 15) (Next (at + n)))
+abbrev pub written_for : Bool → List ℕ → ℕ → ℕ → Result ℕ Refusal
+written_for may d at n = cond (not may) (Err Refusal.NotAllowed) (cond (not (has_room at n (length d))) (Err Refusal.NoRoom) (Ok (at + n)))
 
 -- refused, the buffer is as it was; else the n bytes x stand at their place and all else as it was
 abbrev pub left : Bool → List ℕ → ℕ → ℕ → List ℕ → List ℕ
@@ -31,7 +30,7 @@ abbrev pub place_behind : ℕ → Record → ℕ
 place_behind at r = at + record_length (kind_in r)
 
 -- a record of the table: 14 as in reading
-abbrev pub written_of : List ℕ → ℕ → Record → Written
+abbrev pub written_of : List ℕ → ℕ → Record → Result ℕ Refusal
 written_of d at r = written_for (allowed_in r) d at (record_length (kind_in r))
 
 abbrev pub buffer_of : List ℕ → ℕ → Record → List ℕ
@@ -41,7 +40,7 @@ buffer_of d at r = left (allowed_in r) d at (record_length (kind_in r)) (bytes_o
 abbrev pub offset_may : ℕ → ℤ → Bool
 offset_may at z = eqb at 0 && offset_allowed z
 
-abbrev pub offset_written : List ℕ → ℕ → ℤ → Written
+abbrev pub offset_written : List ℕ → ℕ → ℤ → Result ℕ Refusal
 offset_written d at z = written_for (offset_may at z) d at 8
 
 abbrev pub offset_buffer : List ℕ → ℕ → ℤ → List ℕ

@@ -7,4 +7,4 @@ mod put;
 mod record;
 
 pub use offset::write_offset;
-pub use record::{Written, write};
+pub use record::write;

@@ -8,40 +8,28 @@ use crate::put::put_number;
 use real::is_finite;
 use session::Record;
 
+#[tactic(auto, unfolding(session::specs::Layout::all_finite))]
 fn three_finite(x: f64, y: f64, z: f64) -> bool
     ensures { result ≡ all_finite (x ∷ y ∷ z ∷ []) }
 {
-    if !is_finite(x) {
-        return false;
-    }
-    if !is_finite(y) {
-        return false;
-    }
-    is_finite(z)
+    is_finite(x) && is_finite(y) && is_finite(z)
 }
 
 // Whether all numbers of a record are finite.
+#[tactic(auto, using(crate::proofs::Laws::all_append), unfolding(session::specs::Layout::all_finite))]
 pub fn are_finite(r: Record) -> bool
     ensures { result ≡ all_finite (numbers_in r) }
 {
     match r {
         Record::State(x) => {
             let s = x.state;
-            if !three_finite(s.rx, s.ry, s.rz) {
-                return false;
-            }
-            three_finite(s.vx, s.vy, s.vz)
+            three_finite(s.rx, s.ry, s.rz) && three_finite(s.vx, s.vy, s.vz)
         }
         Record::Burn(x) => {
             let d = x.change;
             three_finite(d.x, d.y, d.z)
         }
-        Record::Mark(x) => {
-            if !is_finite(x.range) {
-                return false;
-            }
-            is_finite(x.rate)
-        }
+        Record::Mark(x) => is_finite(x.range) && is_finite(x.rate),
     }
 }
 

@@ -5,16 +5,14 @@ ghost use Rattle.session.specs.Offset.{offset_bytes};
 ghost use Rattle.writer.specs.Write.{offset_may, offset_written, offset_buffer};
 
 use crate::put::{put_field, short_bits};
-use crate::record::{Written, has_room};
+use crate::record::has_room;
+use refusal::Refusal;
 use session::offset_allowed;
 
 fn is_allowed(at: usize, minutes: i16) -> bool
     ensures { result ≡ offset_may at minutes }
 {
-    if at != 0 {
-        return false;
-    }
-    offset_allowed(minutes)
+    at == 0 && offset_allowed(minutes)
 }
 
 // The kind and what is behind it, and the length last.
@@ -31,14 +29,14 @@ fn put_offset(buf: &mut [u8], minutes: i16) -> usize
 }
 
 // The record at the buffer's front, with all else as it was; or a refusal, and the buffer as it was.
-pub fn write_offset(buf: &mut [u8], at: usize, minutes: i16) -> Written
+pub fn write_offset(buf: &mut [u8], at: usize, minutes: i16) -> Result<usize, Refusal>
     ensures { (result ≡ offset_written buf.old at minutes) × (buf.new ≡ offset_buffer buf.old at minutes) }
 {
     if !is_allowed(at, minutes) {
-        return Written::Refused(14);
+        return Err(Refusal::NotAllowed);
     }
     if !has_room(at, 8, buf.len()) {
-        return Written::Refused(15);
+        return Err(Refusal::NoRoom);
     }
-    Written::Next(put_offset(buf, minutes))
+    Ok(put_offset(buf, minutes))
 }

@@ -8,14 +8,8 @@ ghost use Rattle.writer.specs.Write.{has_room, rest_bytes, written_of, buffer_of
 
 use crate::numbers::{are_finite, put_numbers};
 use crate::put::put_field;
+use refusal::Refusal;
 use session::{Record, time_allowed};
-
-// The place behind the record, or the number of the refusal.
-#[derive(Clone, Copy)]
-pub enum Written {
-    Next(usize),
-    Refused(u32),
-}
 
 #[derive(Clone, Copy)]
 pub struct Header {
@@ -58,30 +52,14 @@ fn is_allowed(r: Record) -> bool
     ensures { result ≡ allowed_in r }
 {
     let h = header_of(r);
-    let time = h.time;
-    if h.vehicle > 1 {
-        return false;
-    }
-    if h.byte > 1 {
-        return false;
-    }
-    if !time_allowed(time) {
-        return false;
-    }
-    are_finite(r)
+    h.vehicle <= 1 && h.byte <= 1 && time_allowed(h.time) && are_finite(r)
 }
 
 // Whether n bytes from `at` on lie within a buffer of this size, and within a session's 65,536 bytes.
 pub fn has_room(at: usize, n: usize, size: usize) -> bool
     ensures { result ≡ has_room at n size }
 {
-    if at > size {
-        return false;
-    }
-    if n > size - at {
-        return false;
-    }
-    at + n <= 65536
+    at <= size && n <= size - at && at + n <= 65536
 }
 
 // The header from the kind on.
@@ -109,16 +87,16 @@ fn put_record(buf: &mut [u8], at: usize, r: Record) -> usize
 }
 
 // The record at its place, with all else as it was; or a refusal, and the buffer as it was.
-pub fn write(buf: &mut [u8], at: usize, r: Record) -> Written
+pub fn write(buf: &mut [u8], at: usize, r: Record) -> Result<usize, Refusal>
     ensures { (result ≡ written_of buf.old at r) × (buf.new ≡ buffer_of buf.old at r) }
 {
     if !is_allowed(r) {
-        return Written::Refused(14);
+        return Err(Refusal::NotAllowed);
     }
     let h = header_of(r);
     let n = h.length;
     if !has_room(at, n, buf.len()) {
-        return Written::Refused(15);
+        return Err(Refusal::NoRoom);
     }
-    Written::Next(put_record(buf, at, r))
+    Ok(put_record(buf, at, r))
 }

@@ -2,6 +2,6 @@
 use Rattle.real.specs.Numbers.{answer_number}
 use Rattle.answers.proofs.tell_number.Goals as goal
 
-pub returns-in-Refused : goal.returns-in-Refused
+pub returns-in-Err : goal.returns-in-Err
 unfolding answer_number
-returns-in-Refused c = rw c.in-Refused.is c.refused.ensures
+returns-in-Err c = rw c.in-Err.is c.refused.ensures

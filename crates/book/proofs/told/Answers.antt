@@ -2,5 +2,5 @@
 use Rattle.text.specs.Pieces.{end}
 use Rattle.book.proofs.told.Goals as goal
 
-pub returns-in-Going : goal.returns-in-Going
-returns-in-Going c = rw c.in-Going.is end
+pub returns-in-Ok : goal.returns-in-Ok
+returns-in-Ok c = rw c.in-Ok.is end

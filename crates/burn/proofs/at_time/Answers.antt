@@ -1,19 +1,26 @@
 -- `burn::at_time` meets its contract. Assumes nothing.
-use mathlib.Core.Path.{◌≡◌, sym, ap, ◌∙◌}
-use lib.IntN.{ℤ}
-use mir.Syntax.{w64}
-use mir.Val.{to_z, of_z}
-use mir.Facts.{to_z-of_z}
-use Rattle.elapsed.specs.Elapsed.{elapsed_of}
+use Rattle.std.specs.Prelude.{◌≡◌, Err, Some}
+use Rattle.std.specs.Result.{result_ok}
+use Rattle.std.proofs.Common.{sym, ap, ◌∙◌, to_z-of_z}
+use Rattle.std.proofs.lemmas.Result.{err_from_is_err_and}
+use Rattle.refusal.specs.declared.Refusal.TheVariants as Refusal
 use Rattle.burn.specs.Burn.{moved_for, at_time}
+use Rattle.burn.proofs.Refusals.{refused_by}
 use Rattle.burn.proofs.at_time.Goals as goal
 
-pub returns-in-Cs : goal.returns-in-Cs
+pub returns-in_err-t : goal.returns-in_err-t
 unfolding at_time moved_for
-returns-in-Cs c = let a = c.args in
-    c.moved.ensures ∙ ap (moved_for a.mu a.s) (sym c.in-Cs.is ∙ c.between.ensures ∙ (let back : elapsed_of (to_z w64 (of_z w64 c.args.from)) (to_z w64 (of_z w64 c.args.to)) ≡ elapsed_of c.args.from c.args.to = ap (λ (z : ℤ). elapsed_of z (to_z w64 (of_z w64 c.args.to))) (to_z-of_z c.ranges.from) ∙ ap (elapsed_of c.args.from) (to_z-of_z c.ranges.to) in back))
+returns-in_err-t c =
+    let a = c.args in
+    let b = rw (to_z-of_z c.ranges.from, to_z-of_z c.ranges.to) at c.between.ensures in
+    let r = refused_by c.between.result c.ok_or.result Refusal.TimeOutOfRange c.in_err-t.field-0.0 c.ok_or.ensures.value c.in_err-t.was in
+    let p = err_from_is_err_and c.from_residual.result c.from_residual.ensures.1 in
+    p.1 ∙ ap Err (p.2 ∙ r.1) ∙ ap (moved_for a.mu a.s) (sym r.0 ∙ b)
 
-pub returns-in-TooLong : goal.returns-in-TooLong
+pub returns : goal.returns
 unfolding at_time moved_for
-returns-in-TooLong c = let a = c.args in
-    ap (moved_for a.mu a.s) (sym c.in-TooLong.is ∙ c.between.ensures ∙ (let back : elapsed_of (to_z w64 (of_z w64 c.args.from)) (to_z w64 (of_z w64 c.args.to)) ≡ elapsed_of c.args.from c.args.to = ap (λ (z : ℤ). elapsed_of z (to_z w64 (of_z w64 c.args.to))) (to_z-of_z c.ranges.from) ∙ ap (elapsed_of c.args.from) (to_z-of_z c.ranges.to) in back))
+returns c =
+    let a = c.args in
+    let b = rw (to_z-of_z c.ranges.from, to_z-of_z c.ranges.to) at c.between.ensures in
+    let t : c.between.result ≡ Some c.in_ok-t.t = c.ok_or.ensures.ok_part ∙ ap result_ok c.in_ok-t.was in
+    c.moved.ensures ∙ ap (moved_for a.mu a.s) (sym t ∙ b)

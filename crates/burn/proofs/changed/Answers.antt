@@ -11,5 +11,5 @@ pub returns : goal.returns
 unfolding changed_of
 returns c = let a = c.args in
     c.cleared.ensures
-    ∙ ap (λ (x : Apsides). cleared_of a.k c.difference-change.result x) (c.periapo.ensures ∙ ap (apsides_of a.k.mu) (c.state_of-after.ensures ∙ ap (λ (r : Vector). state_of r a.new) c.position.ensures))
-    ∙ ap (λ (x : Vector). cleared_of a.k x (apsides_of a.k.mu (state_of (position_of a.active) a.new))) (c.difference-change.ensures ∙ ap (difference_of a.new) c.velocity.ensures)
+    ∙ ap (λ (x : Apsides). cleared_of a.k c.sub-change.result x) (c.periapo.ensures ∙ ap (apsides_of a.k.mu) (c.new-after.ensures ∙ ap (λ (r : Vector). state_of r a.new) c.position.ensures))
+    ∙ ap (λ (x : Vector). cleared_of a.k x (apsides_of a.k.mu (state_of (position_of a.active) a.new))) (c.sub-change.ensures ∙ ap (difference_of a.new) c.velocity.ensures)

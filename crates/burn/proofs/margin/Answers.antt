@@ -7,6 +7,6 @@ pub returns-then-body-eq0 : goal.returns-then-body-eq0
 unfolding margin_of
 returns-then-body-eq0 c = simp (eq-eqb _ _ c.if-body-eq0.true)
 
-pub returns : goal.returns
+pub returns-else-body-eq0 : goal.returns-else-body-eq0
 unfolding margin_of
-returns c = simp (ne_eqb _ _ c.if-body-eq0.false)
+returns-else-body-eq0 c = simp (ne_eqb _ _ c.if-body-eq0.false)

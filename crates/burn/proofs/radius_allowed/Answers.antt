@@ -5,12 +5,12 @@ use Rattle.table.proofs.Laws.{first_failing_lem, passes-all}
 use Rattle.rows.specs.Rows.{radius_row}
 use Rattle.burn.proofs.radius_allowed.Goals as goal
 
-pub returns-in-Passed : goal.returns-in-Passed
+pub returns-in-Ok : goal.returns-in-Ok
 unfolding passes
-returns-in-Passed c = let row = radius_row c.args.radius in
-    ap passes (sym c.in-Passed.is ∙ c.radius_row.ensures ∙ first_failing_lem row) ∙ passes-all row
+returns-in-Ok c = let row = radius_row c.args.radius in
+    ap passes (sym c.in-Ok.is ∙ c.radius_row.ensures ∙ first_failing_lem row) ∙ passes-all row
 
-pub returns-in-Failed : goal.returns-in-Failed
+pub returns-in_default : goal.returns-in_default
 unfolding passes
-returns-in-Failed c = let row = radius_row c.args.radius in
-    ap passes (sym c.in-Failed.is ∙ c.radius_row.ensures ∙ first_failing_lem row) ∙ passes-all row
+returns-in_default c = let row = radius_row c.args.radius in
+    ap passes (sym c.in_default.is ∙ c.radius_row.ensures ∙ first_failing_lem row) ∙ passes-all row

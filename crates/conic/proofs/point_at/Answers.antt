@@ -8,4 +8,4 @@ returns-in_default c = rw (← c.c_and_s.ensures, c.in_default.is, c.outside.ens
 
 pub returns : goal.returns
 unfolding point_at trial_of
-returns c = rw (← c.c_and_s.ensures, c.in-Values.is, c.time-t.ensures)
+returns c = rw (← c.c_and_s.ensures, c.in-Ok.is, c.time-t.ensures)

@@ -1,17 +1,21 @@
 -- `elapsed::at_least` meets its contract. Assumes nothing.
-use Rattle.std.proofs.Common.{◌≡◌, ℕ, ◌-◌, ltb, leb, sym, ap, ◌∙◌, to_z-of_z, le-ltb, lt-ltb}
-use Rattle.elapsed.specs.Elapsed.{raised, at_least}
-use Rattle.elapsed.proofs.Raised.{least-earlier, least-later}
+use Rattle.std.proofs.Common.{leb, sym, ap, ◌∙◌, to_z-of_z}
+use Rattle.elapsed.specs.Elapsed.{at_least}
+use Rattle.elapsed.proofs.Signs.{least-earlier, least-later}
 use Rattle.elapsed.proofs.at_least.Goals as goal
 
-pub returns-then-b-a : goal.returns-then-b-a
+pub returns-then-from-to : goal.returns-then-from-to
 unfolding at_least
-returns-then-b-a c =
-    sym (least-earlier c.args.from c.args.to c.args.cs c.ranges.from.sfits c.ranges.to.sfits (sym (let order : ltb c.raise-b.result c.raise-a.result ≡ ltb (raised c.args.to) (raised c.args.from) = ap (λ (n : ℕ). ltb n c.raise-a.result) (let second : c.raise-b.result ≡ raised c.args.to = c.raise-b.ensures ∙ ap raised (to_z-of_z c.ranges.to) in second) ∙ ap (ltb (raised c.args.to)) (let first : c.raise-a.result ≡ raised c.args.from = c.raise-a.ensures ∙ ap raised (to_z-of_z c.ranges.from) in first) in order) ∙ lt-ltb _ _ c.if-b-a.true))
+returns-then-from-to c =
+    let a = c.args in
+    let p = to_z-of_z c.ranges.from in
+    let q = to_z-of_z c.ranges.to in
+    ap (leb a.cs) (rw (p, q) at c.abs_diff.ensures) ∙ least-later a.from a.to a.cs (rw (p, q) at c.if-from-to.true)
 
-pub returns : goal.returns
+pub returns-else-from-to : goal.returns-else-from-to
 unfolding at_least
-returns c =
-    ap (λ (n : ℕ). leb c.args.cs (n - c.raise-a.result)) (let second : c.raise-b.result ≡ raised c.args.to = c.raise-b.ensures ∙ ap raised (to_z-of_z c.ranges.to) in second)
-    ∙ ap (λ (n : ℕ). leb c.args.cs (raised c.args.to - n)) (let first : c.raise-a.result ≡ raised c.args.from = c.raise-a.ensures ∙ ap raised (to_z-of_z c.ranges.from) in first)
-    ∙ sym (least-later c.args.from c.args.to c.args.cs c.ranges.from.sfits c.ranges.to.sfits (sym (let order : ltb c.raise-b.result c.raise-a.result ≡ ltb (raised c.args.to) (raised c.args.from) = ap (λ (n : ℕ). ltb n c.raise-a.result) (let second : c.raise-b.result ≡ raised c.args.to = c.raise-b.ensures ∙ ap raised (to_z-of_z c.ranges.to) in second) ∙ ap (ltb (raised c.args.to)) (let first : c.raise-a.result ≡ raised c.args.from = c.raise-a.ensures ∙ ap raised (to_z-of_z c.ranges.from) in first) in order) ∙ le-ltb _ _ c.if-b-a.false))
+returns-else-from-to c =
+    let a = c.args in
+    let p = to_z-of_z c.ranges.from in
+    let q = to_z-of_z c.ranges.to in
+    c.if-from-to.false ∙ sym (least-earlier a.from a.to a.cs (rw (p, q) at c.if-from-to.false))

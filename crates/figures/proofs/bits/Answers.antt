@@ -1,6 +1,5 @@
 -- `bits`: the 17 bytes are made in a local line and put from there.
 use lib.Dec.{lit≤}
-use lib.Ieee.{fits}
 use Rattle.real.proofs.Patterns.{not-nan}
 use Rattle.text.proofs.Stand.{then}
 use Rattle.figures.proofs.Places.{front}

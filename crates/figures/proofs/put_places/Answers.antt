@@ -1,4 +1,4 @@
--- The loop has put all places but the first i: whoever puts those, the last i of m, gets the whole. The measure is i. Assumes nothing.
+-- The loop has put all places but the first i: whoever puts those, the last i of m, gets the whole. Assumes nothing.
 use native.Mathlib.Nat.{add-zero}
 use native.Mathlib.Omega.{arith}
 use mathlib.Core.Path.{◌≡◌}

@@ -1,4 +1,4 @@
--- The loop has put all places but the first i: whoever puts those, the last i of m, gets the whole. The measure is i. Assumes nothing.
+-- The loop has put all places but the first i: whoever puts those, the last i of m, gets the whole. Assumes nothing.
 use Prim.Native.Nat.{ℕ, ◌+◌, ◌≤◌}
 use mathlib.Core.Path.{◌≡◌}
 use mathlib.Core.List.{List}
@@ -11,6 +11,3 @@ abbrev pub invariant-loop-i : goal.invariant-loop-i
 invariant-loop-i l =
     (length l.buf ≡ length l.initial.buf) × (l.at + l.i ≤ length l.buf)
     × ((f : List ℕ) → Stands l.buf l.at (places l.base l.i l.m) f (l.at + l.i) → Stands l.initial.buf l.at (places l.base l.k l.n) f (l.at + l.k))
-
-abbrev pub decreases-loop-i : goal.decreases-loop-i
-decreases-loop-i l = l.i

@@ -7,6 +7,6 @@ pub returns-then-body-eq0 : goal.returns-then-body-eq0
 unfolding mu_of
 returns-then-body-eq0 c = simp c.if-body-eq0.true
 
-pub returns : goal.returns
+pub returns-else-body-eq0 : goal.returns-else-body-eq0
 unfolding mu_of
-returns c = simp (ne_eqb c.args.body 0 c.if-body-eq0.false)
+returns-else-body-eq0 c = simp (ne_eqb c.args.body 0 c.if-body-eq0.false)

@@ -13,6 +13,6 @@ returns c =
     ap (λ (x : Float). sub binary64 x a.range)
     (c.length.ensures
     ∙ ap (λ (v : Vector). length_of v)
-    (c.difference-d.ensures
+    (c.sub-d.ensures
     ∙ ap (λ (v : Vector). difference_of v c.position-2.result) c.position.ensures
     ∙ ap (λ (v : Vector). difference_of (position_of a.a.state) v) c.position-2.ensures))

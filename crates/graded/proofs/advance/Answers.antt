@@ -3,11 +3,11 @@ use mathlib.Core.Path.{sym, ◌∙◌}
 use Rattle.graded.specs.Graded.{advance_by}
 use Rattle.graded.proofs.advance.Goals as goal
 
-pub returns-in-Found : goal.returns-in-Found
+pub returns-in-Ok : goal.returns-in-Ok
 unfolding advance_by
-returns-in-Found c =
-    simp (sym c.look_up.ensures ∙ c.in-Found.is, c.advanced.ensures, c.advance_limited.ensures, c.size.ensures, c.fractions_of.ensures)
+returns-in-Ok c =
+    simp (sym c.look_up.ensures ∙ c.in-Ok.is, c.advanced.ensures, c.advance_limited.ensures, c.size.ensures, c.fractions_of.ensures)
 
-pub returns-in-Refused : goal.returns-in-Refused
+pub returns-in-Err : goal.returns-in-Err
 unfolding advance_by
-returns-in-Refused c = simp (sym c.look_up.ensures ∙ c.in-Refused.is)
+returns-in-Err c = simp (sym c.look_up.ensures ∙ c.in-Err.is)

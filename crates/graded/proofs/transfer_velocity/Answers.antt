@@ -3,11 +3,11 @@ use mathlib.Core.Path.{sym, ◌∙◌}
 use Rattle.graded.specs.Graded.{transfer_by}
 use Rattle.graded.proofs.transfer_velocity.Goals as goal
 
-pub returns-in-Found : goal.returns-in-Found
+pub returns-in-Ok : goal.returns-in-Ok
 unfolding transfer_by
-returns-in-Found c =
-    simp (sym c.look_up.ensures ∙ c.in-Found.is, c.transferred.ensures, c.transfer_velocity_limited.ensures, c.fractions_of.ensures)
+returns-in-Ok c =
+    simp (sym c.look_up.ensures ∙ c.in-Ok.is, c.transferred.ensures, c.transfer_velocity_limited.ensures, c.fractions_of.ensures)
 
-pub returns-in-Refused : goal.returns-in-Refused
+pub returns-in-Err : goal.returns-in-Err
 unfolding transfer_by
-returns-in-Refused c = simp (sym c.look_up.ensures ∙ c.in-Refused.is)
+returns-in-Err c = simp (sym c.look_up.ensures ∙ c.in-Err.is)

@@ -7,6 +7,6 @@ pub returns-then-n-eq0 : goal.returns-then-n-eq0
 unfolding body_from
 returns-then-n-eq0 c = rw (eq-eqb _ _ c.if-n-eq0.true)
 
-pub returns : goal.returns
+pub returns-else-n-eq0 : goal.returns-else-n-eq0
 unfolding body_from
-returns c = rw (ne_eqb _ _ c.if-n-eq0.false)
+returns-else-n-eq0 c = rw (ne_eqb _ _ c.if-n-eq0.false)

@@ -7,10 +7,10 @@ pub returns-in-Standard : goal.returns-in-Standard
 unfolding settled_by
 returns-in-Standard c = simp c.in-Standard.is
 
-pub returns-in-Found : goal.returns-in-Found
+pub returns-in-Ok : goal.returns-in-Ok
 unfolding settled_by found_by
-returns-in-Found c = simp (c.in-Named.is, sym c.look_up.ensures ∙ c.in-Found.is)
+returns-in-Ok c = simp (c.in-Named.is, sym c.look_up.ensures ∙ c.in-Ok.is)
 
-pub returns-in-Refused : goal.returns-in-Refused
+pub returns-in-Err : goal.returns-in-Err
 unfolding settled_by found_by
-returns-in-Refused c = simp (c.in-Named.is, sym c.look_up.ensures ∙ c.in-Refused.is)
+returns-in-Err c = simp (c.in-Named.is, sym c.look_up.ensures ∙ c.in-Err.is)

@@ -4,7 +4,7 @@ use Rattle.kepler.proofs.turned.Goals as goal
 
 pub returns-then-t : goal.returns-then-t
 unfolding turned_of
-returns-then-t c = rw (c.if-t.true, c.state_of.ensures, c.negated.ensures, c.velocity.ensures, c.position.ensures)
+returns-then-t c = rw (c.if-t.true, c.new.ensures, c.neg.ensures, c.velocity.ensures, c.position.ensures)
 
 pub returns : goal.returns
 unfolding turned_of

@@ -9,8 +9,8 @@ returns c =
       c.shared_of.ensures,
       c.dot.ensures,
       c.turn_of-turn.ensures,
-      c.divided-u2.ensures,
-      c.divided-u1.ensures,
+      c.div-u2.ensures,
+      c.div-u1.ensures,
       c.length-r2.ensures,
       c.length-r1.ensures,
     )

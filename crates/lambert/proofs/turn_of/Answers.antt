@@ -5,15 +5,15 @@ use Rattle.lambert.proofs.turn_of.Goals as goal
 pub returns-in-Short : goal.returns-in-Short
 unfolding turn_of
 returns-in-Short c =
-    simp (c.in-Short.is, c.divided-normal.ensures, c.length-size.ensures, c.cross-h.ensures)
+    simp (c.in-Short.is, c.div-normal.ensures, c.length-size.ensures, c.cross-h.ensures)
 
 pub returns-in-Long : goal.returns-in-Long
 unfolding turn_of
 returns-in-Long c =
     simp (
       c.in-Long.is,
-      c.negated.ensures,
-      c.divided-normal.ensures,
+      c.neg.ensures,
+      c.div-normal.ensures,
       c.length-size.ensures,
       c.cross-h.ensures,
     )
@@ -24,7 +24,7 @@ returns-in-Normal c =
     simp (
       c.in-Normal.is,
       c.dot.ensures,
-      c.divided-normal.ensures,
+      c.div-normal.ensures,
       c.length-size.ensures,
       c.cross-h.ensures,
     )

@@ -1,17 +1,12 @@
 -- By the case of the answer. Assumes nothing.
-use native.Mathlib.Omega.{arith}
 use Rattle.library_burn.specs.Burns.{burn_told}
-use Rattle.lent.proofs.Gives.{put, left}
+use Rattle.lent.proofs.Gives.{left}
 use Rattle.library_burn.proofs.give_burn.Goals as goal
 
-pub returns-in-Closed : goal.returns-in-Closed
+pub returns-in-Ok : goal.returns-in-Ok
 unfolding burn_told
-returns-in-Closed c = rw c.in-Closed.is (put c.put_numbers.ensures c.put_wholes.ensures (omega arith, omega arith) (omega arith, omega arith))
+returns-in-Ok c = rw c.in-Ok.is c.give_change.ensures
 
-pub returns-in-Open : goal.returns-in-Open
+pub returns-in-Err : goal.returns-in-Err
 unfolding burn_told
-returns-in-Open c = rw c.in-Open.is (put c.put_numbers-in-Open.ensures c.put_wholes-in-Open.ensures (omega arith, omega arith) (omega arith, omega arith))
-
-pub returns-in-Refused : goal.returns-in-Refused
-unfolding burn_told
-returns-in-Refused c = rw c.in-Refused.is left
+returns-in-Err c = rw c.in-Err.is (left c.number.ensures.value)

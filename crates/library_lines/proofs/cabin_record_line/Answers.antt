@@ -1,6 +1,6 @@
 -- Short or not, a kind or none, and then the line. Assumes nothing.
 use Prim.Native.Nat.{ℕ}
-use mathlib.Core.Path.{◌∙◌}
+use mathlib.Core.Path.{refl, ◌∙◌}
 use mathlib.Core.List.{[], ◌∷◌}
 use lib.ListN.{get_or}
 use lib.Ieee.{nan, of_bits, binary64}
@@ -20,11 +20,11 @@ returns-then-whole-lt1 c = rw (lt-leb _ _ c.if-whole-lt1.true) (short-wholes _, 
 
 pub returns-then-kind-lt1 : goal.returns-then-kind-lt1
 unfolding record_line_told
-returns-then-kind-lt1 c = rw (le-leb _ _ c.if-whole-lt1.false, lt-leb _ _ c.if-kind-lt1.true) (enough-wholes left-wholes, left-bytes _ _ _)
+returns-then-kind-lt1 c = rw (le-leb _ _ c.if-whole-lt1.false, lt-leb _ _ c.if-kind-lt1.true) (enough-wholes (left-wholes refl), left-bytes _ _ _)
 
 pub returns-then-kind-gt3 : goal.returns-then-kind-gt3
 unfolding record_line_told
-returns-then-kind-gt3 c = rw (le-leb _ _ c.if-whole-lt1.false, le-leb _ _ c.if-kind-lt1.false, lt-leb _ _ c.if-kind-gt3.true) (enough-wholes left-wholes, left-bytes _ _ _)
+returns-then-kind-gt3 c = rw (le-leb _ _ c.if-whole-lt1.false, le-leb _ _ c.if-kind-lt1.false, lt-leb _ _ c.if-kind-gt3.true) (enough-wholes (left-wholes refl), left-bytes _ _ _)
 
 pub returns : goal.returns
 unfolding record_line_told

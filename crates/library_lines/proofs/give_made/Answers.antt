@@ -8,12 +8,12 @@ use Rattle.library_lines.proofs.give_made.Goals as goal
 pub returns-then-whole-lt1 : goal.returns-then-whole-lt1
 returns-then-whole-lt1 c = rw (lt-leb _ _ c.if-whole-lt1.true) (short-wholes _)
 
-pub returns-in-Line : goal.returns-in-Line
+pub returns-in-Ok : goal.returns-in-Ok
 unfolding made_told
-returns-in-Line c =
-    rw (le-leb _ _ c.if-whole-lt1.false, c.in-Line.is)
+returns-in-Ok c =
+    rw (le-leb _ _ c.if-whole-lt1.false, c.in-Ok.is)
     (enough-wholes (put-wholes c.put_wholes.ensures (omega arith, omega arith)))
 
-pub returns-in-Refused : goal.returns-in-Refused
+pub returns-in-Err : goal.returns-in-Err
 unfolding made_told
-returns-in-Refused c = rw (le-leb _ _ c.if-whole-lt1.false, c.in-Refused.is) (enough-wholes left-wholes)
+returns-in-Err c = rw (le-leb _ _ c.if-whole-lt1.false, c.in-Err.is) (enough-wholes (left-wholes c.number.ensures.value))

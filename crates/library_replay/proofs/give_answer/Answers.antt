@@ -18,4 +18,4 @@ returns-in-Off c = rw c.in-Off.is (put c.put_marked.ensures c.put_held-in-Off.en
 
 pub returns-in-Refused : goal.returns-in-Refused
 unfolding answered_told
-returns-in-Refused c = rw c.in-Refused.is left
+returns-in-Refused c = rw c.in-Refused.is (left c.number.ensures.value)

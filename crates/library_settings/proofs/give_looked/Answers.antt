@@ -4,10 +4,10 @@ use Rattle.library_settings.specs.Versions.{looked_told}
 use Rattle.lent.proofs.Gives.{put, left}
 use Rattle.library_settings.proofs.give_looked.Goals as goal
 
-pub returns-in-Found : goal.returns-in-Found
+pub returns-in-Ok : goal.returns-in-Ok
 unfolding looked_told
-returns-in-Found c = rw c.in-Found.is (put c.put_numbers.ensures c.put_wholes.ensures (omega arith, omega arith) (omega arith, omega arith))
+returns-in-Ok c = rw c.in-Ok.is (put c.put_numbers.ensures c.put_wholes.ensures (omega arith, omega arith) (omega arith, omega arith))
 
-pub returns-in-Refused : goal.returns-in-Refused
+pub returns-in-Err : goal.returns-in-Err
 unfolding looked_told
-returns-in-Refused c = rw c.in-Refused.is left
+returns-in-Err c = rw c.in-Err.is (left c.number.ensures.value)

@@ -4,10 +4,10 @@ use Rattle.library_settings.specs.Versions.{stored_told}
 use Rattle.lent.proofs.Gives.{put-wholes, left-wholes}
 use Rattle.library_settings.proofs.give_stored.Goals as goal
 
-pub returns-in-Version : goal.returns-in-Version
+pub returns-in-Ok : goal.returns-in-Ok
 unfolding stored_told
-returns-in-Version c = rw c.in-Version.is (put-wholes c.put_wholes.ensures (omega arith, omega arith))
+returns-in-Ok c = rw c.in-Ok.is (put-wholes c.put_wholes.ensures (omega arith, omega arith))
 
-pub returns-in-Refused : goal.returns-in-Refused
+pub returns-in-Err : goal.returns-in-Err
 unfolding stored_told
-returns-in-Refused c = rw c.in-Refused.is left-wholes
+returns-in-Err c = rw c.in-Err.is (left-wholes c.number.ensures.value)

@@ -1,4 +1,5 @@
 -- Short or not, a way or none, and then the velocity. Assumes nothing.
+use Rattle.std.proofs.Common.{refl}
 use borrow.Author.Tests.{lt-leb, le-leb}
 use Rattle.library_solves.specs.Solves.{transfer_told}
 use Rattle.lent.proofs.Gives.{left, short, enough}
@@ -21,7 +22,7 @@ returns-then-whole-lt3 c = rw (← c.normal_size.ensures, le-leb _ _ c.if-first-
 
 pub returns-then-way-gt2 : goal.returns-then-way-gt2
 unfolding transfer_told
-returns-then-way-gt2 c = rw (← c.normal_size.ensures, le-leb _ _ c.if-first-lt3.false, le-leb _ _ c.if-second-lt3.false, le-leb _ _ c.if-normal-normal_size.false, le-leb _ _ c.if-out-lt5.false, le-leb _ _ c.if-whole-lt3.false, lt-leb _ _ c.if-way-gt2.true) (enough left)
+returns-then-way-gt2 c = rw (← c.normal_size.ensures, le-leb _ _ c.if-first-lt3.false, le-leb _ _ c.if-second-lt3.false, le-leb _ _ c.if-normal-normal_size.false, le-leb _ _ c.if-out-lt5.false, le-leb _ _ c.if-whole-lt3.false, lt-leb _ _ c.if-way-gt2.true) (enough (left refl))
 
 pub returns : goal.returns
 unfolding transfer_told

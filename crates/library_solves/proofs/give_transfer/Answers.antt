@@ -1,4 +1,5 @@
 -- By the case of the answer. Assumes nothing.
+use Rattle.std.proofs.Common.{refl}
 use native.Mathlib.Omega.{arith}
 use Rattle.library_solves.specs.Solves.{transferred_told}
 use Rattle.lent.proofs.Gives.{put, left}
@@ -10,16 +11,16 @@ returns-in-Found c = rw c.in-Found.is (put c.put_numbers.ensures (rw (c.n_of-n.e
 
 pub returns-in-TooLong : goal.returns-in-TooLong
 unfolding transferred_told
-returns-in-TooLong c = rw c.in-TooLong.is left
+returns-in-TooLong c = rw c.in-TooLong.is (left refl)
 
 pub returns-in-TooShort : goal.returns-in-TooShort
 unfolding transferred_told
-returns-in-TooShort c = rw c.in-TooShort.is left
+returns-in-TooShort c = rw c.in-TooShort.is (left refl)
 
 pub returns-in-NotFinished : goal.returns-in-NotFinished
 unfolding transferred_told
-returns-in-NotFinished c = rw c.in-NotFinished.is left
+returns-in-NotFinished c = rw c.in-NotFinished.is (left refl)
 
 pub returns-in-Refused : goal.returns-in-Refused
 unfolding transferred_told
-returns-in-Refused c = rw c.in-Refused.is left
+returns-in-Refused c = rw c.in-Refused.is (left c.number.ensures.value)

@@ -18,4 +18,4 @@ returns-in-NoneLeft c = rw c.in-NoneLeft.is (put-wholes c.put_wholes-in-NoneLeft
 
 pub returns-in-Refused : goal.returns-in-Refused
 unfolding tried_told
-returns-in-Refused c = rw c.in-Refused.is left-wholes
+returns-in-Refused c = rw c.in-Refused.is (left-wholes c.number.ensures.value)

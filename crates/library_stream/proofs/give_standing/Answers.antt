@@ -10,7 +10,7 @@ returns-in-Open c = rw c.in-Open.is (put-wholes (rw c.offset_of-offset.ensures a
 
 pub returns-in-Refused : goal.returns-in-Refused
 unfolding standing_told
-returns-in-Refused c = rw c.in-Refused.is left-wholes
+returns-in-Refused c = rw c.in-Refused.is (left-wholes c.number.ensures.value)
 
 pub returns-in-Ended : goal.returns-in-Ended
 unfolding standing_told

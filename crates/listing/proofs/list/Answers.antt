@@ -6,4 +6,4 @@ use Rattle.listing.proofs.list.Goals as goal
 
 pub loop-f-smaller : goal.loop-f-smaller
 loop-f-smaller g c =
-    rw (lines-fill c.in-Lines.ensures).after (goes_on c.args.s.now (length c.loop-f.out) c.loop-f.next (lines-room c.in-Lines.ensures) c.loop-f.invariant)
+    rw (lines-fill c.in-Ok.ensures).after (goes_on c.args.s.now (length c.loop-f.out) c.loop-f.next (lines-room c.in-Ok.ensures) c.loop-f.invariant)

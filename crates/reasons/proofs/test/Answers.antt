@@ -6,4 +6,5 @@ use Rattle.reasons.proofs.test.Goals as goal
 
 pub returns : goal.returns
 unfolding test_pieces
-returns c = then c.bytes-a.ensures (then c.number-b.ensures (then c.bytes-c.ensures (and_then c.failed-d.ensures (one c.byte.ensures))))
+returns c =
+    then c.bytes-a.ensures (then (rw c.number.ensures.value at c.number-b.ensures) (then c.bytes-c.ensures (and_then c.failed-d.ensures (one c.byte.ensures))))

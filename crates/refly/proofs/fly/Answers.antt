@@ -5,4 +5,4 @@ use Rattle.refly.proofs.fly.Goals as goal
 
 pub loop-t-smaller : goal.loop-t-smaller
 loop-t-smaller g c =
-    rw (line-inside c.in-Line.ensures).after (fewer c.args.mu c.args.s.now c.loop-t.next c.loop-t.p c.loop-t.invariant)
+    rw (line-inside c.in-Ok.ensures).after (fewer c.args.mu c.args.s.now c.loop-t.next c.loop-t.p c.loop-t.invariant)

@@ -1,36 +1,41 @@
 -- 20, then the advance, then the burn. Assumes nothing.
-use mathlib.Core.Path.{◌≡◌, sym, ap, ◌∙◌}
-use borrow.Author.Rules.{sfits_of}
-use lib.IntN.{ℤ}
-use mir.Syntax.{w64}
-use mir.Facts.{to_z-of_z}
-use Rattle.flight.specs.Flight.{flown_of}
+use Rattle.std.specs.Prelude.{◌≡◌, Err, Some, Option, Result}
+use Rattle.std.specs.Result.{result_ok}
+use Rattle.std.proofs.Common.{sym, ap, ◌∙◌, rules, to_z-of_z, w64, SFits}
+use Rattle.std.proofs.lemmas.Result.{err_from_is_err_and}
+use Rattle.refusal.specs.declared.Refusal.{Refusal}
+use Rattle.flight.specs.declared.Flight.{Flight}
+use Rattle.flight.proofs.Refusals.{refused_by}
 use Rattle.replay.specs.Replay.{burn_from, burn_then}
 use Rattle.replay.proofs.burn_from.Goals as goal
 
-pub returns-in-Unset : goal.returns-in-Unset
+pub returns-in_err-f : goal.returns-in_err-f
 unfolding burn_from
-returns-in-Unset c = simp c.in-Unset.is
+returns-in_err-f c =
+    let a = c.args in
+    let r = refused_by a.x c.ok_or.result Refusal.NotSet c.in_err-f.field-0.0 c.ok_or.ensures.value c.in_err-f.was in
+    let p = err_from_is_err_and c.from_residual.result c.from_residual.ensures.1 in
+    p.1 ∙ ap Err (p.2 ∙ r.1) ∙ sym (ap (λ (o : Option Flight). burn_from a.mu o a.r) r.0)
 
-pub returns-in-Refused : goal.returns-in-Refused
+pub returns-in_err-g : goal.returns-in_err-g
 unfolding burn_from burn_then
-returns-in-Refused c =
-    simp (
-      c.in-Set.is,
-      sym (let flew : let a = c.args in
-          c.fly.result ≡ flown_of a.mu c.in-Set.f a.r.time = let a = c.args in
-          c.fly.ensures
-          ∙ ap (λ (z : ℤ). flown_of a.mu c.in-Set.f z) (to_z-of_z {w = w64} {z = a.r.time} (sfits_of c.struct_told-1.given.1.0.1)) in flew) ∙ c.in-Refused.is,
-    )
+returns-in_err-g c =
+    let a = c.args in
+    let fits : SFits w64 a.r.time = search rules in
+    let flew = rw (to_z-of_z fits) at c.fly.ensures in
+    let set : a.x ≡ Some c.in_ok-f.f = c.ok_or.ensures.ok_part ∙ ap result_ok c.in_ok-f.was in
+    let p = err_from_is_err_and c.from_residual-in_err-g.result c.from_residual-in_err-g.ensures.1 in
+    p.1 ∙ ap Err p.2
+    ∙ sym (ap (λ (o : Option Flight). burn_from a.mu o a.r) set
+    ∙ ap (λ (y : Result Flight Refusal). burn_then y a.r.change) (sym flew ∙ c.in_err-g.was))
 
-pub returns-in-To : goal.returns-in-To
+pub returns : goal.returns
 unfolding burn_from burn_then
-returns-in-To c =
-    simp (
-      c.in-Set.is,
-      sym (let flew : let a = c.args in
-          c.fly.result ≡ flown_of a.mu c.in-Set.f a.r.time = let a = c.args in
-          c.fly.ensures
-          ∙ ap (λ (z : ℤ). flown_of a.mu c.in-Set.f z) (to_z-of_z {w = w64} {z = a.r.time} (sfits_of c.struct_told-1.given.1.0.1)) in flew) ∙ c.in-To.is,
-      c.burn.ensures,
-    )
+returns c =
+    let a = c.args in
+    let fits : SFits w64 a.r.time = search rules in
+    let flew = rw (to_z-of_z fits) at c.fly.ensures in
+    let set : a.x ≡ Some c.in_ok-f.f = c.ok_or.ensures.ok_part ∙ ap result_ok c.in_ok-f.was in
+    c.burn.ensures
+    ∙ sym (ap (λ (o : Option Flight). burn_from a.mu o a.r) set
+    ∙ ap (λ (y : Result Flight Refusal). burn_then y a.r.change) (sym flew ∙ c.in_ok-g.was))

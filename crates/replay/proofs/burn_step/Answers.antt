@@ -1,21 +1,22 @@
 -- A refusal leaves the replay as it is; else the vehicle is set anew. Assumes nothing.
+use Rattle.std.specs.Prelude.{Option}
+use Rattle.flight.specs.declared.Flight.{Flight}
 use mathlib.Core.Path.{◌≡◌, sym, ap, ◌∙◌}
-use Rattle.replay.specs.declared.Vehicle.{Vehicle}
 use Rattle.replay.specs.Replay.{vehicle_of, burn_from, burn_done}
 use Rattle.replay.proofs.burn_step.Goals as goal
 
-pub returns-in-Refused : goal.returns-in-Refused
+pub returns-in-Err : goal.returns-in-Err
 unfolding burn_done
-returns-in-Refused c = simp (
+returns-in-Err c = simp (
   sym (let came : let a = c.args in c.burn_from.result ≡ burn_from a.mu (vehicle_of a.p a.r.vehicle) a.r = let a = c.args in
-      c.burn_from.ensures ∙ ap (λ (x : Vehicle). burn_from a.mu x a.r) c.vehicle_of.ensures in came) ∙ c.in-Refused.is,
+      c.burn_from.ensures ∙ ap (λ (x : Option Flight). burn_from a.mu x a.r) c.vehicle_of.ensures in came) ∙ c.in-Err.is,
   c.refused.ensures,
 )
 
-pub returns-in-To : goal.returns-in-To
+pub returns-in-Ok : goal.returns-in-Ok
 unfolding burn_done
-returns-in-To c = simp (
+returns-in-Ok c = simp (
   sym (let came : let a = c.args in c.burn_from.result ≡ burn_from a.mu (vehicle_of a.p a.r.vehicle) a.r = let a = c.args in
-      c.burn_from.ensures ∙ ap (λ (x : Vehicle). burn_from a.mu x a.r) c.vehicle_of.ensures in came) ∙ c.in-To.is,
+      c.burn_from.ensures ∙ ap (λ (x : Option Flight). burn_from a.mu x a.r) c.vehicle_of.ensures in came) ∙ c.in-Ok.is,
   c.with.ensures,
 )

@@ -7,6 +7,6 @@ pub returns-then-vehicle-eq0 : goal.returns-then-vehicle-eq0
 unfolding with_of
 returns-then-vehicle-eq0 c = simp c.if-vehicle-eq0.true
 
-pub returns : goal.returns
+pub returns-else-vehicle-eq0 : goal.returns-else-vehicle-eq0
 unfolding with_of
-returns c = simp (ne_eqb c.args.vehicle 0 c.if-vehicle-eq0.false)
+returns-else-vehicle-eq0 c = simp (ne_eqb c.args.vehicle 0 c.if-vehicle-eq0.false)

@@ -18,5 +18,5 @@ loop-out-preserved c =
     let p = more l c.loop-out-test.true o c.step-t.ensures c.step-t.auto.line in
     p
 
-pub returns : goal.returns
-returns c = full c.loop-out.invariant c.loop-out-test.false
+pub returns-after-loop-out : goal.returns-after-loop-out
+returns-after-loop-out c = full c.loop-out.invariant c.loop-out-test.false

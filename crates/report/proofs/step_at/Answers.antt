@@ -1,11 +1,16 @@
--- Each answer of the reader by its line; a refusal's number fits a byte. Assumes nothing.
+-- Each answer of the reader by its line. Assumes nothing.
+use mir.Syntax.{w16}
+use mir.Facts.{to_z-of_z}
 use native.Mathlib.Omega.{arith}
-use mathlib.Core.Path.{sym, ◌∙◌}
-use Rattle.session.proofs.Refusals.{refusal-number}
+use Rattle.report.specs.declared.Next.TheVariants.{At, Done}
+use Rattle.report.proofs.Fillings.{stepped}
 use Rattle.report.proofs.step_at.Goals as goal
 
-pub overflow_cast-number : goal.overflow_cast-number
-overflow_cast-number c =
-    let e = sym c.read.ensures ∙ c.in-Refused.is in
-    let a = c.args in
-    omega (arith, refusal-number a.s.now a.place c.in-Refused.number c.in-Refused.at e)
+pub returns-in-Record : goal.returns-in-Record
+returns-in-Record c =
+    let z = to_z-of_z {w = w16} {z = c.in-Record.behind.offset} (record { sfits = omega arith }) in
+    rw (← c.in-Record.ensures) (stepped (At c.in-Record.behind) c.requires (rw z at c.record_line.ensures) c.unwrap_or-length.ensures)
+
+pub returns-in-Refused : goal.returns-in-Refused
+returns-in-Refused c =
+    rw (← c.in-Refused.ensures) (stepped Done c.requires (rw c.number.ensures.value at c.refused_line.ensures) c.unwrap_or-length-in-Refused.ensures)

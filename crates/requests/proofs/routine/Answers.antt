@@ -1,16 +1,25 @@
 -- The table's names, in their order. Assumes nothing.
 use mathlib.Core.Path.{sym, ◌∙◌}
+use Rattle.std.proofs.Common.{◌≡◌, rules}
+use Rattle.forms.specs.declared.Request.TheVariants.{Root, C, S}
 use Rattle.forms.proofs.Steps.{by_word}
+use Rattle.requests.specs.Requests.{one_asked}
 use Rattle.requests.proofs.routine.Goals as goal
 
 pub returns-then-is_word : goal.returns-then-is_word
-returns-then-is_word c = c.root.ensures ∙ sym (by_word 0 _ _ _ _ c.requires c.is_word.ensures c.if-is_word.true)
+returns-then-is_word c =
+    let e : c.map.result ≡ one_asked c.one.result Root = search rules in
+    e ∙ sym (c.one.ensures Root) ∙ sym (by_word 0 _ _ _ _ c.requires c.is_word.ensures c.if-is_word.true)
 
 pub returns-then-is_word-2 : goal.returns-then-is_word-2
-returns-then-is_word-2 c = c.c.ensures ∙ sym (by_word 0 _ _ _ _ c.requires c.is_word.ensures c.if-is_word.false ∙ by_word 0 _ _ _ _ c.requires c.is_word-2.ensures c.if-is_word-2.true)
+returns-then-is_word-2 c =
+    let e : c.map-then-is_word-2.result ≡ one_asked c.one-then-is_word-2.result C = search rules in
+    e ∙ sym (c.one-then-is_word-2.ensures C) ∙ sym (by_word 0 _ _ _ _ c.requires c.is_word.ensures c.if-is_word.false ∙ by_word 0 _ _ _ _ c.requires c.is_word-2.ensures c.if-is_word-2.true)
 
 pub returns-then-is_word-3 : goal.returns-then-is_word-3
-returns-then-is_word-3 c = c.s.ensures ∙ sym (by_word 0 _ _ _ _ c.requires c.is_word.ensures c.if-is_word.false ∙ by_word 0 _ _ _ _ c.requires c.is_word-2.ensures c.if-is_word-2.false ∙ by_word 0 _ _ _ _ c.requires c.is_word-3.ensures c.if-is_word-3.true)
+returns-then-is_word-3 c =
+    let e : c.map-then-is_word-3.result ≡ one_asked c.one-then-is_word-3.result S = search rules in
+    e ∙ sym (c.one-then-is_word-3.ensures S) ∙ sym (by_word 0 _ _ _ _ c.requires c.is_word.ensures c.if-is_word.false ∙ by_word 0 _ _ _ _ c.requires c.is_word-2.ensures c.if-is_word-2.false ∙ by_word 0 _ _ _ _ c.requires c.is_word-3.ensures c.if-is_word-3.true)
 
 pub returns-then-is_word-4 : goal.returns-then-is_word-4
 returns-then-is_word-4 c = c.trial.ensures ∙ sym (by_word 0 _ _ _ _ c.requires c.is_word.ensures c.if-is_word.false ∙ by_word 0 _ _ _ _ c.requires c.is_word-2.ensures c.if-is_word-2.false ∙ by_word 0 _ _ _ _ c.requires c.is_word-3.ensures c.if-is_word-3.false ∙ by_word 0 _ _ _ _ c.requires c.is_word-4.ensures c.if-is_word-4.true)

@@ -5,7 +5,7 @@ use mir.Facts.{to_z-of_z}
 use mir.Val.{SFits}
 use native.Mathlib.Omega.{arith}
 use mathlib.Core.Path.{◌≡◌, sym, ap, ◌∙◌}
-use mathlib.Core.Bool.{true, false}
+use mathlib.Core.Bool.{true}
 use lib.ListN.{drop}
 use lib.Dec.{eqb}
 use lib.IntN.{ℤ}

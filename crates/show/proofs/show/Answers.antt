@@ -1,23 +1,9 @@
--- Each record is further on than the one before it, and its lines lie within the room.
-use Rattle.std.proofs.Common.{arith, sym, length-take-le}
-use Rattle.script.proofs.Steps.{goes_on, last-inside}
+-- Each record is further on than the one before it.
+use Rattle.std.proofs.Common.{arith}
+use Rattle.script.proofs.Steps.{further}
+use Rattle.show.proofs.Left.{less}
 use Rattle.show.proofs.show.Goals as goal
 
-pub slice_bounds-out-end : goal.slice_bounds-out-end
-slice_bounds-out-end g c = (goes_on (omega (arith, c.loop-n.array_long)) c.in-Lines.n c.in-Lines.behind c.in-Lines.ensures).0
-
-pub slice_bounds-print-end : goal.slice_bounds-print-end
-slice_bounds-print-end g c =
-    sym (length-take-le _ _ (goes_on (omega (arith, c.loop-n.array_long)) c.in-Lines.n c.in-Lines.behind c.in-Lines.ensures).0)
-
-pub loop-n-smaller : goal.loop-n-smaller
-loop-n-smaller g c =
-    let f = goes_on (omega (arith, c.loop-n.array_long)) c.in-Lines.n c.in-Lines.behind c.in-Lines.ensures in
-    omega (arith, f.1, f.2)
-
-pub slice_bounds-out-end-in-Last : goal.slice_bounds-out-end-in-Last
-slice_bounds-out-end-in-Last g c = last-inside (omega (arith, c.loop-n.array_long)) c.in-Last.n c.in-Last.ensures
-
-pub slice_bounds-print-end-in-Last : goal.slice_bounds-print-end-in-Last
-slice_bounds-print-end-in-Last g c =
-    sym (length-take-le _ _ (last-inside (omega (arith, c.loop-n.array_long)) c.in-Last.n c.in-Last.ensures))
+pub loop-next-smaller : goal.loop-next-smaller
+loop-next-smaller g c =
+    rw c.in-Some.is (less c.args.s.now c.in-Some.place c.in-Ok.shown.next (further (omega arith) c.in-Ok.shown c.in-Ok.ensures))

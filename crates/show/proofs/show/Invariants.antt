@@ -1,6 +1,6 @@
 -- Each record is further on than the one before it.
-use Rattle.std.proofs.Common.{◌-◌, length}
+use Rattle.show.proofs.Left.{left}
 use Rattle.show.proofs.show.Given as goal
 
-abbrev pub decreases-loop-n : goal.decreases-loop-n
-decreases-loop-n g l = length l.s - l.place.at
+abbrev pub decreases-loop-next : goal.decreases-loop-next
+decreases-loop-next g l = left l.s l.next

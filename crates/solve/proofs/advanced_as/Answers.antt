@@ -16,25 +16,25 @@ pub returns-in-TooLong : goal.returns-in-TooLong
 unfolding advanced_as
 returns-in-TooLong c = simp c.in-TooLong.is
 
-pub returns-in-InRange : goal.returns-in-InRange
+pub returns-in-Ok : goal.returns-in-Ok
 unfolding advanced_as advanced_at
-returns-in-InRange c =
+returns-in-Ok c =
     simp (
       c.in-Met.is,
       sym (let arrival : let a = c.args in
           c.arrive.result ≡ arrival_of a.m a.from c.in-Met.x.n = let a = c.args in
-          c.arrive.ensures ∙ ap (λ (z : ℤ). arrival_of a.m a.from z) (to_z-of_z {w = w64} {z = c.in-Met.x.n} (sfits_of c.struct_told-1.given.0.1)) in arrival) ∙ c.in-InRange.is,
+          c.arrive.ensures ∙ ap (λ (z : ℤ). arrival_of a.m a.from z) (to_z-of_z {w = w64} {z = c.in-Met.x.n} (sfits_of c.struct_told-1.given.0.1)) in arrival) ∙ c.in-Ok.is,
       c.turned.ensures,
     )
 
-pub returns-in-OutOfRange : goal.returns-in-OutOfRange
+pub returns-in-Err : goal.returns-in-Err
 unfolding advanced_as advanced_at
-returns-in-OutOfRange c =
+returns-in-Err c =
     simp (
       c.in-Met.is,
       sym (let arrival : let a = c.args in
           c.arrive.result ≡ arrival_of a.m a.from c.in-Met.x.n = let a = c.args in
-          c.arrive.ensures ∙ ap (λ (z : ℤ). arrival_of a.m a.from z) (to_z-of_z {w = w64} {z = c.in-Met.x.n} (sfits_of c.struct_told-1.given.0.1)) in arrival) ∙ c.in-OutOfRange.is,
+          c.arrive.ensures ∙ ap (λ (z : ℤ). arrival_of a.m a.from z) (to_z-of_z {w = w64} {z = c.in-Met.x.n} (sfits_of c.struct_told-1.given.0.1)) in arrival) ∙ c.in-Err.is,
     )
 
 pub returns-in-NotFinished : goal.returns-in-NotFinished

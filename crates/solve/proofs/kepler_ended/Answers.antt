@@ -1,9 +1,10 @@
 -- `solve::kepler_ended` meets its contract: the tests ahead and the fall are those of the advance's own numbers. Assumes nothing.
+use Rattle.table.specs.declared.Entry.{Entry}
+use Rattle.std.specs.Prelude.{Result}
 use Prim.Native.Nat.{ℕ}
 use mathlib.Core.Path.{ap, ◌∙◌}
 use lib.Ieee.{Float}
 use Rattle.vector.specs.declared.State.{State}
-use Rattle.table.specs.declared.Test.{Test}
 use Rattle.table.specs.Tests.{first_failing}
 use Rattle.table.proofs.Laws.{first_failing_lem}
 use Rattle.iterator.specs.declared.Beginning.{Beginning}
@@ -17,7 +18,7 @@ use Rattle.solve.specs.Ends.{motion_for}
 use Rattle.solve.proofs.kepler_ended.Goals as goal
 
 -- with these numbers, these tests and this rest
-abbrev by : Motion → Float → Beginning → ℕ → Test → Test → Ended
+abbrev by : Motion → Float → Beginning → ℕ → Result Unit Entry → Result Unit Entry → Ended
 by m rest g limit ahead fall = ended_from ahead (begun_of (Kepler m) rest g) fall (Kepler m) rest limit
 
 abbrev for : Float → State → Float → Beginning → ℕ → Motion → Float → Ended
@@ -27,7 +28,7 @@ pub returns : goal.returns
 returns c =
     let a = c.args in
     c.ended_from.ensures
-    ∙ ap (λ (p : Test). by a.m a.rest a.g a.limit p c.fall_row-fall.result) c.kepler_ahead-ahead.ensures
+    ∙ ap (λ (p : Result Unit Entry). by a.m a.rest a.g a.limit p c.fall_row-fall.result) c.kepler_ahead-ahead.ensures
     ∙ ap (by a.m a.rest a.g a.limit (first_failing (kepler_ahead a.mu a.s a.t a.m a.g))) (c.fall_row-fall.ensures ∙ first_failing_lem (fall_row a.mu a.s a.m.orbit.r1))
     ∙ ap (λ (m : Motion). for a.mu a.s a.t a.g a.limit m a.rest) c.requires.its_motion
     ∙ ap (for a.mu a.s a.t a.g a.limit (motion_for a.mu a.s a.t)) c.requires.its_rest

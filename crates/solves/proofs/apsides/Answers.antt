@@ -1,22 +1,19 @@
 -- By the numbers read. Assumes nothing.
-use mathlib.Core.Path.{◌≡◌, sym}
-use mathlib.Core.List.{List}
-use lib.ListN.{length}
-use lib.Ieee.{Float}
+use Rattle.std.specs.Prelude.{Err}
+use mathlib.Core.Path.{◌≡◌, refl, ◌∙◌}
+use Rattle.std.proofs.Common.{rules}
 use Rattle.forms.specs.Forms.{numbers}
-use Rattle.forms.proofs.Rows.{all_there, one-bad}
+use mathlib.Core.List.{List}
+use lib.Ieee.{Float}
 use Rattle.solves.proofs.Lists.{apsides_of}
-use native.Mathlib.Omega.{arith}
 use Rattle.solves.proofs.apsides.Goals as goal
 
-pub returns-then-w-ne0 : goal.returns-then-w-ne0
+pub returns-in_err-mu : goal.returns-in_err-mu
 unfolding numbers
-returns-then-w-ne0 c =
-    let s : length c.only_numbers-w.new.xs ≡ 7 = omega (arith, c.only_numbers-w.auto.xs) in
-    λ ask. sym (one-bad 7 (λ (xs : List Float). ask (apsides_of xs)) c.args.line.now c.args.k c.only_numbers-w.new.xs s c.only_numbers-w.ensures c.if-w-ne0.true)
+returns-in_err-mu c =
+    let e : c.from_residual.result ≡ Err c.in_err-mu.field-0.0 = search rules in
+    λ ask. c.in_err-mu.ensures (λ (xs : List Float). ask (apsides_of xs)) ∙ rw e refl
 
 pub returns : goal.returns
 unfolding numbers
-returns c =
-    let s : length c.only_numbers-w.new.xs ≡ 7 = omega (arith, c.only_numbers-w.auto.xs) in
-    λ ask. sym (all_there 7 (λ (xs : List Float). ask (apsides_of xs)) c.args.line.now c.args.k c.only_numbers-w.new.xs s c.only_numbers-w.ensures c.if-w-ne0.false)
+returns c = λ ask. c.in_ok-mu.ensures (λ (xs : List Float). ask (apsides_of xs))

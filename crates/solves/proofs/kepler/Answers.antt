@@ -1,37 +1,23 @@
 -- By the numbers read, and what stands behind them. Assumes nothing.
-use mathlib.Core.Path.{◌≡◌, sym, ap, ◌∙◌}
-use lib.ListN.{length}
-use native.Mathlib.Omega.{arith}
+use Rattle.std.specs.Prelude.{Err}
+use mathlib.Core.Path.{◌≡◌, refl, ◌∙◌}
+use Rattle.std.proofs.Common.{rules}
 use Rattle.forms.specs.Forms.{numbers}
-use Rattle.forms.proofs.Rows.{first-there, first-bad}
-use Rattle.options.specs.Options.{asked}
-use Rattle.options.specs.declared.Options.{Options}
 use Rattle.solves.proofs.Lists.{kepler_ask, kepler_go}
 use Rattle.solves.proofs.kepler.Goals as goal
 
-pub returns-then-w-ne0 : goal.returns-then-w-ne0
+pub returns-in_err-mu : goal.returns-in_err-mu
 unfolding numbers
-returns-then-w-ne0 c =
-    let a = c.args in
-    let s : length c.numbers-w.new.xs ≡ 8 = omega (arith, c.numbers-w.auto.xs) in
-    λ ask. sym (first-bad 8 (kepler_go ask) a.line.now a.k c.numbers-w.new.xs s c.numbers-w.ensures c.if-w-ne0.true)
+returns-in_err-mu c =
+    let e : c.from_residual.result ≡ Err c.in_err-mu.field-0.0 = search rules in
+    λ ask. c.in_err-mu.ensures (kepler_go ask) ∙ rw e refl
 
-pub returns-in-Read : goal.returns-in-Read
+pub returns-in_err-beginning : goal.returns-in_err-beginning
 unfolding numbers
-returns-in-Read c =
-    let a = c.args in
-    let s : length c.numbers-w.new.xs ≡ 8 = omega (arith, c.numbers-w.auto.xs) in
-    λ ask.
-    first-there 8 (kepler_go ask) a.line.now a.k c.numbers-w.new.xs s c.numbers-w.ensures c.if-w-ne0.false
-    ∙ c.read.ensures (kepler_ask ask c.numbers-w.new.xs)
-    ∙ ap (λ (r : Options). asked r (kepler_ask ask c.numbers-w.new.xs)) c.in-Read.is
+returns-in_err-beginning c =
+    let e : c.from_residual-in_err-beginning.result ≡ Err c.in_err-beginning.field-0.0 = search rules in
+    λ ask. c.in_ok-mu.ensures (kepler_go ask) ∙ c.in_err-beginning.ensures (kepler_ask ask c.in_ok-mu.field-0) ∙ rw e refl
 
-pub returns-in-Unread : goal.returns-in-Unread
+pub returns : goal.returns
 unfolding numbers
-returns-in-Unread c =
-    let a = c.args in
-    let s : length c.numbers-w.new.xs ≡ 8 = omega (arith, c.numbers-w.auto.xs) in
-    λ ask.
-    first-there 8 (kepler_go ask) a.line.now a.k c.numbers-w.new.xs s c.numbers-w.ensures c.if-w-ne0.false
-    ∙ c.read.ensures (kepler_ask ask c.numbers-w.new.xs)
-    ∙ ap (λ (r : Options). asked r (kepler_ask ask c.numbers-w.new.xs)) c.in-Unread.is
+returns c = λ ask. c.in_ok-mu.ensures (kepler_go ask) ∙ c.in_ok-beginning.ensures (kepler_ask ask c.in_ok-mu.field-0)

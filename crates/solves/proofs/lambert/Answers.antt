@@ -1,53 +1,29 @@
 -- By the numbers read, the way, and what stands behind it. Assumes nothing.
-use mathlib.Core.Path.{◌≡◌, sym, ap, ◌∙◌}
-use lib.ListN.{length}
-use native.Mathlib.Omega.{arith}
+use Rattle.std.specs.Prelude.{Err}
+use mathlib.Core.Path.{◌≡◌, refl, ◌∙◌}
+use Rattle.std.proofs.Common.{rules}
 use Rattle.forms.specs.Forms.{numbers}
-use Rattle.forms.proofs.Rows.{first-there, first-bad}
-use Rattle.options.specs.Options.{asked}
-use Rattle.options.specs.declared.Options.{Options}
-use Rattle.solves.specs.declared.Round.{Round}
-use Rattle.solves.specs.Solves.{behind_way}
 use Rattle.solves.proofs.Lists.{lambert_ask, lambert_end, lambert_go}
 use Rattle.solves.proofs.lambert.Goals as goal
 
-pub returns-then-w-ne0 : goal.returns-then-w-ne0
+pub returns-in_err-mu : goal.returns-in_err-mu
 unfolding numbers
-returns-then-w-ne0 c =
-    let a = c.args in
-    let s : length c.numbers-w.new.xs ≡ 8 = omega (arith, c.numbers-w.auto.xs) in
-    λ ask. sym (first-bad 8 (lambert_go ask) a.line.now a.k c.numbers-w.new.xs s c.numbers-w.ensures c.if-w-ne0.true)
+returns-in_err-mu c =
+    let e : c.from_residual.result ≡ Err c.in_err-mu.field-0.0 = search rules in
+    λ ask. c.in_err-mu.ensures (lambert_go ask) ∙ rw e refl
 
-pub returns-in-Read-read : goal.returns-in-Read-read
+pub returns-in_err-way : goal.returns-in_err-way
 unfolding numbers
-returns-in-Read-read c =
-    let a = c.args in
-    let s : length c.numbers-w.new.xs ≡ 8 = omega (arith, c.numbers-w.auto.xs) in
-    λ ask.
-    first-there 8 (lambert_go ask) a.line.now a.k c.numbers-w.new.xs s c.numbers-w.ensures c.if-w-ne0.false
-    ∙ c.way_at.ensures (lambert_end ask c.numbers-w.new.xs)
-    ∙ ap (λ (r : Round). behind_way r (lambert_end ask c.numbers-w.new.xs) a.line.now) c.in-Read.is
-    ∙ c.read.ensures (lambert_ask ask c.numbers-w.new.xs c.in-Read.way)
-    ∙ ap (λ (r : Options). asked r (lambert_ask ask c.numbers-w.new.xs c.in-Read.way)) c.in-Read-read.is
+returns-in_err-way c =
+    let e : c.from_residual-in_err-way.result ≡ Err c.in_err-way.field-0.0 = search rules in
+    λ ask. c.in_ok-mu.ensures (lambert_go ask) ∙ c.in_err-way.ensures (lambert_end ask c.in_ok-mu.field-0) ∙ rw e refl
 
-pub returns-in-Unread-read : goal.returns-in-Unread-read
+pub returns-in_err-beginning : goal.returns-in_err-beginning
 unfolding numbers
-returns-in-Unread-read c =
-    let a = c.args in
-    let s : length c.numbers-w.new.xs ≡ 8 = omega (arith, c.numbers-w.auto.xs) in
-    λ ask.
-    first-there 8 (lambert_go ask) a.line.now a.k c.numbers-w.new.xs s c.numbers-w.ensures c.if-w-ne0.false
-    ∙ c.way_at.ensures (lambert_end ask c.numbers-w.new.xs)
-    ∙ ap (λ (r : Round). behind_way r (lambert_end ask c.numbers-w.new.xs) a.line.now) c.in-Read.is
-    ∙ c.read.ensures (lambert_ask ask c.numbers-w.new.xs c.in-Read.way)
-    ∙ ap (λ (r : Options). asked r (lambert_ask ask c.numbers-w.new.xs c.in-Read.way)) c.in-Unread-read.is
+returns-in_err-beginning c =
+    let e : c.from_residual-in_err-beginning.result ≡ Err c.in_err-beginning.field-0.0 = search rules in
+    λ ask. c.in_ok-mu.ensures (lambert_go ask) ∙ c.in_ok-way.ensures (lambert_end ask c.in_ok-mu.field-0) ∙ c.in_err-beginning.ensures (lambert_ask ask c.in_ok-mu.field-0 c.in_ok-way.way) ∙ rw e refl
 
-pub returns-in-Unread : goal.returns-in-Unread
+pub returns : goal.returns
 unfolding numbers
-returns-in-Unread c =
-    let a = c.args in
-    let s : length c.numbers-w.new.xs ≡ 8 = omega (arith, c.numbers-w.auto.xs) in
-    λ ask.
-    first-there 8 (lambert_go ask) a.line.now a.k c.numbers-w.new.xs s c.numbers-w.ensures c.if-w-ne0.false
-    ∙ c.way_at.ensures (lambert_end ask c.numbers-w.new.xs)
-    ∙ ap (λ (r : Round). behind_way r (lambert_end ask c.numbers-w.new.xs) a.line.now) c.in-Unread.is
+returns c = λ ask. c.in_ok-mu.ensures (lambert_go ask) ∙ c.in_ok-way.ensures (lambert_end ask c.in_ok-mu.field-0) ∙ c.in_ok-beginning.ensures (lambert_ask ask c.in_ok-mu.field-0 c.in_ok-way.way)

@@ -11,10 +11,12 @@ use lib.IntN.{ℤ}
 use Rattle.session.specs.declared.record.Decoded.TheVariants as D
 use Rattle.session.proofs.Limits.{offset-small}
 use Rattle.session.proofs.Offsets.{at_offset}
-use Rattle.session.proofs.Refusals.{decode-number}
 use Rattle.stream.specs.declared.Step.TheVariants as S
-use Rattle.stream.specs.Stream.{found_at}
-use Rattle.stream.proofs.Steps.{Lies, filled, record-fits, is-record, offset-within, is_offset_lem, is-cut-short, is-refused, kept-short}
+use Rattle.refusal.specs.Refusals.{number_of}
+use borrow.Author.Tests.{eqb-false}
+use mathlib.Core.Bool.{false}
+use Rattle.stream.specs.Stream.{found_at, is_cut}
+use Rattle.stream.proofs.Steps.{cut-eleven, Lies, filled, record-fits, is-record, offset-within, is_offset_lem, is-cut-short, is-refused, kept-short}
 use Rattle.stream.proofs.go_on.Goals as goal
 
 pub add-seen-requires : goal.add-seen-requires
@@ -30,7 +32,7 @@ overflow_add-result c =
     let n = c.add-seen.result in
     let e = c.add-seen.new.room in
     let g : Lies a.place a.kept a.from n a.room.now a.part.now e = record { fits = p.2; unfinished = p.3; allowed = p.4; stands = c.add-seen.ensures } in
-    let i : found_at a.place (take n e) ≡ D.Whole c.in-Whole.r c.in-Whole.n = sym c.decode_at.ensures ∙ c.in-Whole.is in
+    let i : found_at a.place (take n e) ≡ D.Whole c.in-Whole.r c.in-Whole.n = sym c.decode_at-decoded.ensures ∙ c.in-Whole.is in
     omega (arith, (record-fits g i).0, (record-fits g i).1, p.5)
 
 pub overflow_sub-result : goal.overflow_sub-result
@@ -40,7 +42,7 @@ overflow_sub-result c =
     let n = c.add-seen.result in
     let e = c.add-seen.new.room in
     let g : Lies a.place a.kept a.from n a.room.now a.part.now e = record { fits = p.2; unfinished = p.3; allowed = p.4; stands = c.add-seen.ensures } in
-    let i : found_at a.place (take n e) ≡ D.Whole c.in-Whole.r c.in-Whole.n = sym c.decode_at.ensures ∙ c.in-Whole.is in
+    let i : found_at a.place (take n e) ≡ D.Whole c.in-Whole.r c.in-Whole.n = sym c.decode_at-decoded.ensures ∙ c.in-Whole.is in
     omega (arith, (record-fits g i).0)
 
 pub overflow_add-result-in-Whole : goal.overflow_add-result-in-Whole
@@ -50,7 +52,7 @@ overflow_add-result-in-Whole c =
     let n = c.add-seen.result in
     let e = c.add-seen.new.room in
     let g : Lies a.place a.kept a.from n a.room.now a.part.now e = record { fits = p.2; unfinished = p.3; allowed = p.4; stands = c.add-seen.ensures } in
-    let i : found_at a.place (take n e) ≡ D.Whole c.in-Whole.r c.in-Whole.n = sym c.decode_at.ensures ∙ c.in-Whole.is in
+    let i : found_at a.place (take n e) ≡ D.Whole c.in-Whole.r c.in-Whole.n = sym c.decode_at-decoded.ensures ∙ c.in-Whole.is in
     omega (arith, (record-fits g i).1, p.1)
 
 pub overflow_sub-result-in-Offset : goal.overflow_sub-result-in-Offset
@@ -61,28 +63,18 @@ overflow_sub-result-in-Offset c =
     let e = c.add-seen.new.room in
     let g : Lies a.place a.kept a.from n a.room.now a.part.now e = record { fits = p.2; unfinished = p.3; allowed = p.4; stands = c.add-seen.ensures } in
     let z = c.in-Offset.z in
-    let i : found_at a.place (take n e) ≡ D.Offset z = sym c.decode_at.ensures ∙ c.in-Offset.is in
+    let i : found_at a.place (take n e) ≡ D.Offset z = sym c.decode_at-decoded.ensures ∙ c.in-Offset.is in
     omega (arith, (offset-within g i).0)
 
-pub returns-then-number-eq11 : goal.returns-then-number-eq11
-returns-then-number-eq11 c =
+pub returns-then-is_cut : goal.returns-then-is_cut
+returns-then-is_cut c =
     let p = c.requires in
     let a = c.args in
     let n = c.add-seen.result in
     let e = c.add-seen.new.room in
     let g : Lies a.place a.kept a.from n a.room.now a.part.now e = record { fits = p.2; unfinished = p.3; allowed = p.4; stands = c.add-seen.ensures } in
-    let i : found_at a.place (take n e) ≡ D.Refused c.in-Refused.number = sym c.decode_at.ensures ∙ c.in-Refused.is in
-    (is-cut-short g (i ∙ ap D.Refused c.if-number-eq11.true), filled g)
-
-pub overflow_cast-result : goal.overflow_cast-result
-overflow_cast-result c =
-    let p = c.requires in
-    let a = c.args in
-    let n = c.add-seen.result in
-    let e = c.add-seen.new.room in
-    let g : Lies a.place a.kept a.from n a.room.now a.part.now e = record { fits = p.2; unfinished = p.3; allowed = p.4; stands = c.add-seen.ensures } in
-    let i : found_at a.place (take n e) ≡ D.Refused c.in-Refused.number = sym c.decode_at.ensures ∙ c.in-Refused.is in
-    omega (arith, (decode-number (eqb a.place.at 0) (take n e) c.in-Refused.number i).1)
+    let i = cut-eleven (found_at a.place (take n e)) (sym (ap is_cut c.decode_at-decoded.ensures) ∙ sym c.is_cut.ensures ∙ c.if-is_cut.true) in
+    (is-cut-short g i, filled g)
 
 pub returns-in-Whole : goal.returns-in-Whole
 returns-in-Whole c =
@@ -91,7 +83,7 @@ returns-in-Whole c =
     let n = c.add-seen.result in
     let e = c.add-seen.new.room in
     let g : Lies a.place a.kept a.from n a.room.now a.part.now e = record { fits = p.2; unfinished = p.3; allowed = p.4; stands = c.add-seen.ensures } in
-    let i : found_at a.place (take n e) ≡ D.Whole c.in-Whole.r c.in-Whole.n = sym c.decode_at.ensures ∙ c.in-Whole.is in
+    let i : found_at a.place (take n e) ≡ D.Whole c.in-Whole.r c.in-Whole.n = sym c.decode_at-decoded.ensures ∙ c.in-Whole.is in
     let m = c.in-Whole.n in
     let o = to_z-of_z {w = w16} {z = a.place.offset} (record { sfits = c.struct_told-1.given.1.0.1 }) in
     (ap (λ (y : ℤ). S.Record c.in-Whole.r (record { at = a.place.at + m; offset = y }) (a.from + (m - a.kept))) o ∙ is-record g i, filled g)
@@ -104,17 +96,19 @@ returns-in-Offset c =
     let e = c.add-seen.new.room in
     let g : Lies a.place a.kept a.from n a.room.now a.part.now e = record { fits = p.2; unfinished = p.3; allowed = p.4; stands = c.add-seen.ensures } in
     let z = c.in-Offset.z in
-    let i : found_at a.place (take n e) ≡ D.Offset z = sym c.decode_at.ensures ∙ c.in-Offset.is in
+    let i : found_at a.place (take n e) ≡ D.Offset z = sym c.decode_at-decoded.ensures ∙ c.in-Offset.is in
     let m = offset-small z (at_offset (eqb a.place.at 0) (take n e) z i).allowed in
     let k : SFits w16 z = record { sfits = omega (arith, m) } in
     (ap (λ (y : ℤ). S.Offset (record { at = 8; offset = y }) (a.from + (8 - a.kept))) (to_z-of_z {w = w16} {z = z} k) ∙ is_offset_lem g i, filled g)
 
-pub returns-else-number-eq11 : goal.returns-else-number-eq11
-returns-else-number-eq11 c =
+pub returns-in-Refused : goal.returns-in-Refused
+returns-in-Refused c =
     let p = c.requires in
     let a = c.args in
     let n = c.add-seen.result in
     let e = c.add-seen.new.room in
     let g : Lies a.place a.kept a.from n a.room.now a.part.now e = record { fits = p.2; unfinished = p.3; allowed = p.4; stands = c.add-seen.ensures } in
-    let i : found_at a.place (take n e) ≡ D.Refused c.in-Refused.number = sym c.decode_at.ensures ∙ c.in-Refused.is in
-    (is-refused g c.in-Refused.number c.if-number-eq11.false i, filled g)
+    let m = c.in-Refused.refusal in
+    let i : found_at a.place (take n e) ≡ D.Refused m = sym c.decode_at-decoded.ensures ∙ c.in-Refused.is in
+    let w : eqb (number_of m) 11 ≡ false = sym (ap is_cut c.in-Refused.is) ∙ sym c.is_cut.ensures ∙ c.if-is_cut.false in
+    (is-refused g m (eqb-false (number_of m) 11 w) i, filled g)

@@ -2,7 +2,7 @@
 use Prim.Native.Nat.{ℕ, ◌+◌, ◌-◌}
 use native.Mathlib.Omega.{arith}
 use mathlib.Core.Path.{◌≡◌, sym, ap, ◌∙◌}
-use mathlib.Core.Bool.{true, false}
+use mathlib.Core.Bool.{false}
 use lib.ListN.{length}
 use lib.Dec.{ltb}
 use borrow.Author.Tests.{ltb-false, not-false}
@@ -14,7 +14,8 @@ use Rattle.stream.proofs.take_open.Goals as goal
 pub returns-then-from-part : goal.returns-then-from-part
 returns-then-from-part c =
     let a = c.args in
-    let e : ltb most_bytes (a.place.at + a.kept + (length a.part.now - a.from)) ≡ false = sym (c.passes.ensures ∙ ap (λ (j : ℕ). ltb most_bytes (a.place.at + a.kept + j)) c.left.ensures) ∙ c.if-passes.false in
+    let l : c.saturating_sub.result ≡ length a.part.now - a.from = omega arith in
+    let e : ltb most_bytes (a.place.at + a.kept + (length a.part.now - a.from)) ≡ false = sym (c.passes.ensures ∙ ap (λ (j : ℕ). ltb most_bytes (a.place.at + a.kept + j)) l) ∙ c.if-passes.false in
     let h = c.if-room-lt62.false in
     let s = sym c.is_sound.ensures ∙ not-false _ (ap not c.if-not-is_sound.false) in
     let x = is-passed a.place a.kept a.room.now a.part.now a.from e h s in
@@ -24,7 +25,8 @@ returns-then-from-part c =
 pub go_on-requires : goal.go_on-requires
 go_on-requires c =
     let a = c.args in
-    let e : ltb most_bytes (a.place.at + a.kept + (length a.part.now - a.from)) ≡ false = sym (c.passes.ensures ∙ ap (λ (j : ℕ). ltb most_bytes (a.place.at + a.kept + j)) c.left.ensures) ∙ c.if-passes.false in
+    let l : c.saturating_sub.result ≡ length a.part.now - a.from = omega arith in
+    let e : ltb most_bytes (a.place.at + a.kept + (length a.part.now - a.from)) ≡ false = sym (c.passes.ensures ∙ ap (λ (j : ℕ). ltb most_bytes (a.place.at + a.kept + j)) l) ∙ c.if-passes.false in
     let h = c.if-room-lt62.false in
     let s = sound a.place a.kept a.room.now h (sym c.is_sound.ensures ∙ not-false _ (ap not c.if-not-is_sound.false)) in
     (h, omega (arith, c.if-from-part.false), omega (arith, s.fits, h), s.unfinished, s.allowed, ltb-false _ _ e)

@@ -8,6 +8,6 @@ pub returns-then-d-lt10 : goal.returns-then-d-lt10
 unfolding digit_text
 returns-then-d-lt10 c = rw (lt-ltb _ _ c.if-d-lt10.true) refl
 
-pub returns : goal.returns
+pub returns-else-d-lt10 : goal.returns-else-d-lt10
 unfolding digit_text
-returns c = rw (le-ltb _ _ c.if-d-lt10.false) refl
+returns-else-d-lt10 c = rw (le-ltb _ _ c.if-d-lt10.false) refl

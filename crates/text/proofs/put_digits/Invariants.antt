@@ -11,6 +11,3 @@ abbrev pub invariant-loop-i : goal.invariant-loop-i
 invariant-loop-i l =
     (length l.buf ≡ length l.initial.buf) × (l.at + l.i ≤ length l.buf)
     × ((f : List ℕ) → Stands l.buf l.at (lasts l.i l.m) f (l.at + l.i) → Stands l.initial.buf l.at (decimal l.n) f (l.at + l.k))
-
-abbrev pub decreases-loop-i : goal.decreases-loop-i
-decreases-loop-i l = l.i

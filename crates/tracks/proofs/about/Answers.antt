@@ -7,6 +7,6 @@ pub returns-then-body-eq0 : goal.returns-then-body-eq0
 unfolding about_text
 returns-then-body-eq0 c = rw c.if-body-eq0.true c.bytes.ensures
 
-pub returns : goal.returns
+pub returns-else-body-eq0 : goal.returns-else-body-eq0
 unfolding about_text
-returns c = rw (ne_eqb c.args.body 0 c.if-body-eq0.false) c.bytes-2.ensures
+returns-else-body-eq0 c = rw (ne_eqb c.args.body 0 c.if-body-eq0.false) c.bytes-else-body-eq0.ensures

@@ -18,4 +18,4 @@ returns-in-Off c = rw c.in-Off.is (and_then c.labelled-a.ensures c.end.ensures)
 
 pub returns-in-Refused : goal.returns-in-Refused
 unfolding answer_pieces
-returns-in-Refused c = rw c.in-Refused.is (then c.bytes-a.ensures (then c.number-b.ensures (one c.byte.ensures)))
+returns-in-Refused c = rw c.in-Refused.is (then c.bytes-a.ensures (then (rw c.number.ensures.value at c.number-b.ensures) (one c.byte.ensures)))

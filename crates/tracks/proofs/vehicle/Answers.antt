@@ -4,10 +4,10 @@ use Rattle.text.proofs.Lays.{one}
 use Rattle.tracks.specs.Tracks.{where_pieces, vehicle_pieces}
 use Rattle.tracks.proofs.vehicle.Goals as goal
 
-pub returns-in-Unset : goal.returns-in-Unset
+pub returns-in-None : goal.returns-in-None
 unfolding where_pieces vehicle_pieces
-returns-in-Unset c = rw c.in-Unset.is (then c.bytes-a.ensures (then c.number-b.ensures (one c.bytes.ensures)))
+returns-in-None c = rw c.in-None.is (then c.bytes-a.ensures (then c.number-b.ensures (one c.bytes.ensures)))
 
-pub returns-in-Set : goal.returns-in-Set
+pub returns-in-Some : goal.returns-in-Some
 unfolding where_pieces vehicle_pieces
-returns-in-Set c = rw c.in-Set.is (then c.bytes-a.ensures (then c.number-b.ensures c.flight.ensures))
+returns-in-Some c = rw c.in-Some.is (then c.bytes-a.ensures (then c.number-b.ensures c.flight.ensures))

@@ -1,17 +1,13 @@
--- `is_blank` is the definition's three tests, in their order.
-use mathlib.Core.Path.{refl}
-use borrow.Author.Tests.{eq-eqb, ne_eqb}
+-- `is_blank` is the definition's three tests.
+use Rattle.std.proofs.Common.{arith}
+use Rattle.std.proofs.lemmas.Bool.Decides.{nat_tests}
 use Rattle.words.specs.Words.{is_of}
 use Rattle.words.proofs.is_blank.Goals as goal
 
-pub returns-then-b-eq32 : goal.returns-then-b-eq32
+pub returns-in-32 : goal.returns-in-32
 unfolding is_of
-returns-then-b-eq32 c = rw (eq-eqb _ _ c.if-b-eq32.true) refl
+returns-in-32 c = grind (arith, nat_tests)
 
-pub returns-then-b-eq9 : goal.returns-then-b-eq9
+pub returns-in_default : goal.returns-in_default
 unfolding is_of
-returns-then-b-eq9 c = rw (ne_eqb _ _ c.if-b-eq32.false, eq-eqb _ _ c.if-b-eq9.true) refl
-
-pub returns : goal.returns
-unfolding is_of
-returns c = rw (ne_eqb _ _ c.if-b-eq32.false, ne_eqb _ _ c.if-b-eq9.false) refl
+returns-in_default c = grind (arith, nat_tests)

@@ -1,14 +1,13 @@
--- `until` finds the first such byte: nothing before place i is one.
-use Prim.Native.Nat.{◌-◌}
-use mathlib.Core.Path.{sym, ◌∙◌}
-use Rattle.words.proofs.Searches.{more, here, nowhere}
+-- `until`: by the place behind what does not count.
+use native.Mathlib.Omega.{arith}
+use Rattle.words.proofs.Searches.{found-there, found-nowhere}
 use Rattle.words.proofs.until.Goals as goal
 
-pub returns-then-is : goal.returns-then-is
-returns-then-is c = here _ _ _ _ c.loop-i.invariant c.loop-i-test.true (sym c.is.ensures ∙ c.if-is.true)
+pub overflow_add-result : goal.overflow_add-result
+overflow_add-result c = let f = found-there _ _ _ c.requires _ c.in-Some.ensures in record { fits = omega (arith, f.within) }
 
-pub loop-i-preserved : goal.loop-i-preserved
-loop-i-preserved c = more _ _ _ _ c.loop-i.invariant c.loop-i-test.true (sym c.is.ensures ∙ c.if-is.false)
+pub returns-in-Some : goal.returns-in-Some
+returns-in-Some c = found-there _ _ _ c.requires _ c.in-Some.ensures
 
-pub returns : goal.returns
-returns c = nowhere _ _ _ _ c.loop-i.invariant c.loop-i-test.false
+pub returns-in-None : goal.returns-in-None
+returns-in-None c = found-nowhere _ _ _ c.requires c.in-None.ensures

@@ -3,4 +3,4 @@ use Rattle.std.proofs.Common.{◌≤◌, length}
 use Rattle.write.proofs.main.Given as goal
 
 abbrev pub invariant-loop : goal.invariant-loop
-invariant-loop l = (l.kept ≤ length l.line) × (l.at ≤ length l.session)
+invariant-loop l = (l.state.kept ≤ length l.line) × (l.state.progress.at ≤ length l.session)

@@ -3,8 +3,12 @@ use native.Mathlib.Omega.{arith}
 use Rattle.text.proofs.Puts.{kept}
 use Rattle.field.proofs.Bytes.{bytes-length}
 use Rattle.field.proofs.writing.put.Goals as goal
+use Rattle.field.proofs.writing.put.Goals.{then-at-buf-via-then-at-buf, then-at-buf-via-else-at-buf+then-w-buf}
 
-pub returns-then-w-buf : goal.returns-then-w-buf
-returns-then-w-buf c =
+pub returns-then-at-buf : goal.returns-then-at-buf
+returns-then-at-buf c =
     let a = c.args in
-    kept (omega (arith, c.if-w-buf.true, c.if-at-buf.false, bytes-length a.w a.n))
+    elim c.then-at-buf.branch [
+      | then-at-buf-via-then-at-buf w ↦ kept (omega arith)
+      | then-at-buf-via-else-at-buf+then-w-buf w ↦ kept (omega (arith, bytes-length a.w a.n))
+    ]

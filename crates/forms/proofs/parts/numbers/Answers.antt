@@ -1,19 +1,33 @@
 -- Each turn reads one number more. Assumes nothing.
-use Prim.Native.Nat.{◌-◌}
-use mathlib.Core.Path.{refl, ap, ◌∙◌}
-use lib.ListN.{length-set}
+use Prim.Native.Nat.{◌+◌, ◌<◌, ◌≤◌}
+use native.Mathlib.Omega.{arith}
+use mathlib.Core.Path.{◌≡◌, sym, ◌∙◌}
+use lib.ListN.{length, length-set, length-replicate}
+use Rattle.std.specs.Prelude.{Err}
+use Rattle.std.proofs.Common.{rules}
+use Rattle.words.specs.Words.{word_at}
 use Rattle.numerals.specs.Numbers.{word_number}
-use Rattle.forms.proofs.Rows.{got-none, got-more, got-bad, got-all}
+use Rattle.forms.proofs.Rows.{there, missed, got-none, got-more, got-bad, got-all}
 use Rattle.forms.proofs.parts.numbers.Goals as goal
 
 pub loop-i-init : goal.loop-i-init
-loop-i-init c = (refl, got-none _ _ _)
+loop-i-init g c = (length-replicate _ _, got-none _ _ _)
 
 pub loop-i-preserved : goal.loop-i-preserved
-loop-i-preserved c = (simp length-set c.loop-i.invariant.0, got-more c.loop-i.invariant.1 c.loop-i-test.true (c.read_number.ensures ∙ ap word_number c.word.ensures) c.in-Read.is)
+loop-i-preserved g c =
+    let p : c.number_at.result ≡ word_number (word_at (c.args.k + c.loop-i.i) c.args.line.now) = rw (← c.from.ensures) c.number_at.ensures in
+    let h : c.loop-i.i < length c.loop-i.x-items = omega (arith, c.loop-i.invariant.0) in
+    (simp length-set c.loop-i.invariant.0, got-more c.loop-i.invariant.1 h p (there _ _ (sym c.ok_or.ensures.value ∙ c.in_ok-x.was)))
 
-pub returns-in-Unread : goal.returns-in-Unread
-returns-in-Unread c = got-bad c.loop-i.invariant.1 c.loop-i-test.true (c.read_number.ensures ∙ ap word_number c.word.ensures) c.in-Unread.is
+pub returns-in_err-x : goal.returns-in_err-x
+returns-in_err-x g c =
+    let p : c.number_at.result ≡ word_number (word_at (c.args.k + c.loop-i.i) c.args.line.now) = rw (← c.from.ensures) c.number_at.ensures in
+    let h : c.loop-i.i < length c.loop-i.x-items = omega (arith, c.loop-i.invariant.0) in
+    let m = missed _ _ (sym c.ok_or.ensures.value ∙ c.in_err-x.was) in
+    let e : c.from_residual.result ≡ Err c.in_err-x.field-0.0 = search rules in
+    rw (e, ← m.1, c.from.ensures, ← c.loop-i.invariant.0) (got-bad c.loop-i.invariant.1 h p m.0)
 
 pub returns : goal.returns
-returns c = got-all c.loop-i.invariant.1 c.loop-i-test.false
+returns g c =
+    let h : length c.loop-i.x-items ≤ c.loop-i.i = omega (arith, c.loop-i.invariant.0) in
+    rw (← c.loop-i.invariant.0) (got-all c.loop-i.invariant.1 h)

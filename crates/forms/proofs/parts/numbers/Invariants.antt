@@ -1,12 +1,8 @@
 -- Each turn reads one number more. Assumes nothing.
-use Prim.Native.Nat.{◌-◌}
 use mathlib.Core.Path.{◌≡◌}
 use lib.ListN.{length}
 use Rattle.forms.proofs.Rows.{Got}
 use Rattle.forms.proofs.parts.numbers.Given as goal
 
 abbrev pub invariant-loop-i : goal.invariant-loop-i
-invariant-loop-i l = (length l.xs ≡ length l.initial.xs) × Got l.line l.k l.xs l.i
-
-abbrev pub decreases-loop-i : goal.decreases-loop-i
-decreases-loop-i l = length l.xs - l.i
+invariant-loop-i g l = (length l.x-items ≡ l.i-end) × Got l.line l.k l.x-items l.i

@@ -4,10 +4,10 @@ use Rattle.library.specs.Answers.{wheel_told}
 use Rattle.lent.proofs.Gives.{put-numbers, left-numbers}
 use Rattle.library.proofs.looks.give_wheel.Goals as goal
 
-pub returns-in-Angle : goal.returns-in-Angle
+pub returns-in-Ok : goal.returns-in-Ok
 unfolding wheel_told
-returns-in-Angle c = rw c.in-Angle.is (put-numbers c.put_numbers.ensures (omega arith, omega arith))
+returns-in-Ok c = rw c.in-Ok.is (put-numbers c.put_numbers.ensures (omega arith, omega arith))
 
-pub returns-in-Refused : goal.returns-in-Refused
+pub returns-in-Err : goal.returns-in-Err
 unfolding wheel_told
-returns-in-Refused c = rw c.in-Refused.is left-numbers
+returns-in-Err c = rw c.in-Err.is (left-numbers c.number.ensures.value)

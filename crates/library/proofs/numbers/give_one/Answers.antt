@@ -8,10 +8,10 @@ use Rattle.library.proofs.numbers.give_one.Goals as goal
 pub returns-then-out-lt1 : goal.returns-then-out-lt1
 returns-then-out-lt1 c = rw (lt-leb _ _ c.if-out-lt1.true) (short-numbers _)
 
-pub returns-in-Value : goal.returns-in-Value
+pub returns-in-Ok : goal.returns-in-Ok
 unfolding one_told
-returns-in-Value c = rw (le-leb _ _ c.if-out-lt1.false, c.in-Value.is) (enough-numbers (put-numbers c.put_numbers.ensures (omega arith, omega arith)))
+returns-in-Ok c = rw (le-leb _ _ c.if-out-lt1.false, c.in-Ok.is) (enough-numbers (put-numbers c.put_numbers.ensures (omega arith, omega arith)))
 
-pub returns-in-Refused : goal.returns-in-Refused
+pub returns-in-Err : goal.returns-in-Err
 unfolding one_told
-returns-in-Refused c = rw (le-leb _ _ c.if-out-lt1.false, c.in-Refused.is) (enough-numbers left-numbers)
+returns-in-Err c = rw (le-leb _ _ c.if-out-lt1.false, c.in-Err.is) (enough-numbers (left-numbers c.number.ensures.value))

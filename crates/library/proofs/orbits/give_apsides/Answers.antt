@@ -14,4 +14,4 @@ returns-in-Open c = rw c.in-Open.is (put c.put_numbers-in-Open.ensures c.put_who
 
 pub returns-in-Refused : goal.returns-in-Refused
 unfolding apsides_told
-returns-in-Refused c = rw c.in-Refused.is left
+returns-in-Refused c = rw c.in-Refused.is (left c.number.ensures.value)

@@ -1,4 +1,5 @@
 -- By the case of the answer. Assumes nothing.
+use Rattle.std.proofs.Common.{refl}
 use native.Mathlib.Omega.{arith}
 use Rattle.library.specs.Answers.{transfer_time_told}
 use Rattle.lent.proofs.Gives.{put-numbers, left-numbers}
@@ -10,12 +11,12 @@ returns-in-Time c = rw c.in-Time.is (put-numbers c.put_numbers.ensures (omega ar
 
 pub returns-in-TooLong : goal.returns-in-TooLong
 unfolding transfer_time_told
-returns-in-TooLong c = rw c.in-TooLong.is left-numbers
+returns-in-TooLong c = rw c.in-TooLong.is (left-numbers refl)
 
 pub returns-in-TooShort : goal.returns-in-TooShort
 unfolding transfer_time_told
-returns-in-TooShort c = rw c.in-TooShort.is left-numbers
+returns-in-TooShort c = rw c.in-TooShort.is (left-numbers refl)
 
 pub returns-in-Refused : goal.returns-in-Refused
 unfolding transfer_time_told
-returns-in-Refused c = rw c.in-Refused.is left-numbers
+returns-in-Refused c = rw c.in-Refused.is (left-numbers c.number.ensures.value)

@@ -15,4 +15,4 @@ returns-in-End c = rw c.in-End.is (put-none c.put_wholes-in-End.ensures (omega a
 
 pub returns-in-Refused : goal.returns-in-Refused
 unfolding read_told
-returns-in-Refused c = rw c.in-Refused.is left
+returns-in-Refused c = rw c.in-Refused.is (left c.number.ensures.value)

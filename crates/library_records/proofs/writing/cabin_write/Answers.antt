@@ -1,5 +1,5 @@
 -- Short or not, a kind or none, numbers enough or not, and then the writer. Assumes nothing.
-use mathlib.Core.Path.{◌∙◌}
+use mathlib.Core.Path.{refl, ◌∙◌}
 use mir.Syntax.{w64}
 use mir.Facts.{to_z-of_z}
 use borrow.Author.Tests.{lt-leb, le-leb}
@@ -13,11 +13,11 @@ returns-then-whole-lt1 c = rw (lt-leb _ _ c.if-whole-lt1.true) (short-wholes _, 
 
 pub returns-then-kind-lt1 : goal.returns-then-kind-lt1
 unfolding write_told
-returns-then-kind-lt1 c = rw (le-leb _ _ c.if-whole-lt1.false, lt-leb _ _ c.if-kind-lt1.true) (enough-wholes left-wholes, left-bytes _ _ _)
+returns-then-kind-lt1 c = rw (le-leb _ _ c.if-whole-lt1.false, lt-leb _ _ c.if-kind-lt1.true) (enough-wholes (left-wholes refl), left-bytes _ _ _)
 
 pub returns-then-kind-gt3 : goal.returns-then-kind-gt3
 unfolding write_told
-returns-then-kind-gt3 c = rw (le-leb _ _ c.if-whole-lt1.false, le-leb _ _ c.if-kind-lt1.false, lt-leb _ _ c.if-kind-gt3.true) (enough-wholes left-wholes, left-bytes _ _ _)
+returns-then-kind-gt3 c = rw (le-leb _ _ c.if-whole-lt1.false, le-leb _ _ c.if-kind-lt1.false, lt-leb _ _ c.if-kind-gt3.true) (enough-wholes (left-wholes refl), left-bytes _ _ _)
 
 pub returns-then-numbers-count_from : goal.returns-then-numbers-count_from
 unfolding write_told

@@ -4,10 +4,10 @@ use Rattle.library_records.specs.Records.{written_told}
 use Rattle.lent.proofs.Gives.{put-wholes, left-wholes}
 use Rattle.library_records.proofs.writing.give_written.Goals as goal
 
-pub returns-in-Next : goal.returns-in-Next
+pub returns-in-Ok : goal.returns-in-Ok
 unfolding written_told
-returns-in-Next c = rw c.in-Next.is (put-wholes c.put_wholes.ensures (omega arith, omega arith))
+returns-in-Ok c = rw c.in-Ok.is (put-wholes c.put_wholes.ensures (omega arith, omega arith))
 
-pub returns-in-Refused : goal.returns-in-Refused
+pub returns-in-Err : goal.returns-in-Err
 unfolding written_told
-returns-in-Refused c = rw c.in-Refused.is left-wholes
+returns-in-Err c = rw c.in-Err.is (left-wholes c.number.ensures.value)

@@ -1,19 +1,15 @@
 -- `read_signed`: by the first byte.
-use Rattle.std.proofs.Common.{refl, ap, ◌∙◌, eq-eqb, ne_eqb}
-use Rattle.words.proofs.Searches.{rest_of, nil}
+use Rattle.std.proofs.Common.{refl, sym, ap, ◌∙◌}
+use Rattle.numerals.proofs.Values.{begins}
 use Rattle.numerals.specs.Numbers.{word_decimal, plain, minus, word_signed}
 use Rattle.numerals.proofs.digits.read_signed.Goals as goal
 
-pub returns-then-s-eq0 : goal.returns-then-s-eq0
-unfolding word_signed word_decimal
-returns-then-s-eq0 c = let s = c.args.s.now in rw (nil s c.if-s-eq0.true) refl
-
-pub returns-then-s-eq45 : goal.returns-then-s-eq45
+pub returns-in-Some : goal.returns-in-Some
 unfolding word_signed
-returns-then-s-eq45 c =
-    let s = c.args.s.now in
-    c.negative.ensures ∙ ap minus (c.decimal_digits.ensures ∙ ap word_decimal (rest_of 1 s)) ∙ rw (eq-eqb _ _ c.if-s-eq45.true) refl
+returns-in-Some c =
+    let e = c.in-Some.ensures.cases in
+    c.negative.ensures ∙ ap minus (c.decimal_digits.ensures ∙ ap word_decimal e.1) ∙ rw (sym (begins c.args.s.now 45 refl) ∙ e.0) refl
 
-pub returns : goal.returns
+pub returns-in-None : goal.returns-in-None
 unfolding word_signed
-returns c = c.positive.ensures ∙ ap plain c.decimal_digits-2.ensures ∙ rw (ne_eqb _ _ c.if-s-eq45.false) refl
+returns-in-None c = c.positive.ensures ∙ ap plain c.decimal_digits-in-None.ensures ∙ rw (sym (begins c.args.s.now 45 refl) ∙ c.in-None.ensures.cases) refl

@@ -1,32 +1,32 @@
 -- `read_number`: by the first byte.
-use Rattle.std.proofs.Common.{refl, ap, ◌∙◌, eq-eqb, ne_eqb}
-use Rattle.words.specs.Words.{up_to, from}
-use Rattle.numerals.specs.Numbers.{pattern_of, well_formed, unsigned_of, negated, word_number}
-use Rattle.words.proofs.Searches.{rest_of, nil}
+use Rattle.std.proofs.Common.{refl, sym, ap, ◌∙◌}
+use Rattle.numerals.proofs.Values.{begins}
+use Rattle.numerals.specs.Numbers.{pattern_of, unsigned_of, negated, word_number}
 use Rattle.numerals.proofs.reals.read_number.Goals as goal
 
-pub returns-then-s-eq0 : goal.returns-then-s-eq0
-unfolding word_number unsigned_of well_formed up_to from
-returns-then-s-eq0 c = let s = c.args.s.now in rw (nil s c.if-s-eq0.true) refl
-
-pub returns-then-s-eq120 : goal.returns-then-s-eq120
+pub returns-in-Some : goal.returns-in-Some
 unfolding word_number
-returns-then-s-eq120 c =
+returns-in-Some c =
     let s = c.args.s.now in
-    c.pattern.ensures ∙ ap pattern_of (rest_of 1 s) ∙ rw (eq-eqb _ _ c.if-s-eq120.true) refl
+    let e = c.in-Some.ensures.cases in
+    c.pattern.ensures ∙ ap pattern_of e.1 ∙ rw (sym (begins s 120 refl) ∙ e.0) refl
 
-pub returns-then-s-eq45 : goal.returns-then-s-eq45
+pub returns-in-Some-strip_prefix : goal.returns-in-Some-strip_prefix
 unfolding word_number
-returns-then-s-eq45 c =
+returns-in-Some-strip_prefix c =
     let s = c.args.s.now in
-    c.negative.ensures ∙ ap negated (c.unsigned.ensures ∙ ap unsigned_of (rest_of 1 s)) ∙ rw (ne_eqb _ _ c.if-s-eq120.false, eq-eqb _ _ c.if-s-eq45.true) refl
+    let e = c.in-Some-strip_prefix.ensures.cases in
+    c.negative.ensures ∙ ap negated (c.unsigned.ensures ∙ ap unsigned_of e.1) ∙ rw (sym (begins s 120 refl) ∙ c.in_default.ensures.cases, sym (begins s 45 refl) ∙ e.0) refl
 
-pub returns-then-s-eq43 : goal.returns-then-s-eq43
+pub returns-in-Some-strip_prefix-2 : goal.returns-in-Some-strip_prefix-2
 unfolding word_number
-returns-then-s-eq43 c =
+returns-in-Some-strip_prefix-2 c =
     let s = c.args.s.now in
-    c.unsigned-then-s-eq43.ensures ∙ ap unsigned_of (rest_of 1 s) ∙ rw (ne_eqb _ _ c.if-s-eq120.false, ne_eqb _ _ c.if-s-eq45.false, eq-eqb _ _ c.if-s-eq43.true) refl
+    let e = c.in-Some-strip_prefix-2.ensures.cases in
+    c.unsigned-in-Some-strip_prefix-2.ensures ∙ ap unsigned_of e.1 ∙ rw (sym (begins s 120 refl) ∙ c.in_default.ensures.cases, sym (begins s 45 refl) ∙ c.in_default-strip_prefix.ensures.cases, sym (begins s 43 refl) ∙ e.0) refl
 
 pub returns : goal.returns
 unfolding word_number
-returns c = c.unsigned-2.ensures ∙ rw (ne_eqb _ _ c.if-s-eq120.false, ne_eqb _ _ c.if-s-eq45.false, ne_eqb _ _ c.if-s-eq43.false) refl
+returns c =
+    let s = c.args.s.now in
+    c.unsigned-2.ensures ∙ rw (sym (begins s 120 refl) ∙ c.in_default.ensures.cases, sym (begins s 45 refl) ∙ c.in_default-strip_prefix.ensures.cases, sym (begins s 43 refl) ∙ c.in_default-strip_prefix-2.ensures.cases) refl

@@ -8,6 +8,3 @@ use Rattle.session.proofs.payload.are_finite.Given as goal
 abbrev pub invariant-loop-i : goal.invariant-loop-i
 invariant-loop-i l =
     (l.i ≤ l.n) × (14 + 8 * l.n ≤ length l.s) × (all_finite (numbers_from 0 l.n l.s) ≡ all_finite (numbers_from l.i (l.n - l.i) l.s))
-
-abbrev pub decreases-loop-i : goal.decreases-loop-i
-decreases-loop-i l = l.n - l.i

@@ -1,8 +1,9 @@
 -- The tests in their order; the record stands at the front. Assumes nothing.
+use Rattle.std.specs.Prelude.{Ok}
 use Prim.Native.Nat.{ℕ, ◌+◌}
 use native.Mathlib.Omega.{arith}
 use mathlib.Core.Path.{◌≡◌, sym, ap, ◌∙◌}
-use mathlib.Core.Bool.{true, false}
+use mathlib.Core.Bool.{true}
 use mathlib.Core.List.{◌++◌}
 use lib.ListN.{length, take, drop}
 use lib.Dec.{eqb}
@@ -13,7 +14,6 @@ use Rattle.facts.proofs.Truth.{each}
 use Rattle.session.specs.Limits.{offset_allowed}
 use Rattle.session.specs.Offset.{offset_bytes}
 use Rattle.text.specs.Text.{Stands}
-use Rattle.writer.specs.declared.record.Written.TheVariants.{Next}
 use Rattle.writer.specs.Write.{has_room, offset_may}
 use Rattle.writer.proofs.Laws.{offset-length}
 use Rattle.writer.proofs.Cases.{stood}
@@ -31,4 +31,4 @@ returns c =
     let p : Stands d 0 (offset_bytes a.minutes) c.put_offset.new.buf c.put_offset.result = rw z at c.put_offset.ensures in
     let q : c.put_offset.result ≡ a.at + 8 = omega (arith, p.next, offset-length a.minutes, y) in
     let s = stood (offset_may a.at a.minutes) d a.at 8 (offset_bytes a.minutes) u o in
-    (ap Next q ∙ s.0, p.whole ∙ ap (λ (n : ℕ). take 0 d ++ (offset_bytes a.minutes ++ drop n d)) q ∙ ap (λ (n : ℕ). take n d ++ (offset_bytes a.minutes ++ drop (a.at + 8) d)) (sym y) ∙ s.1)
+    (ap Ok q ∙ s.0, p.whole ∙ ap (λ (n : ℕ). take 0 d ++ (offset_bytes a.minutes ++ drop n d)) q ∙ ap (λ (n : ℕ). take n d ++ (offset_bytes a.minutes ++ drop (a.at + 8) d)) (sym y) ∙ s.1)

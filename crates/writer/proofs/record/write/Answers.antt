@@ -1,7 +1,8 @@
 -- The tests in their order; the record stands in its place. Assumes nothing.
+use Rattle.std.specs.Prelude.{Ok}
 use Prim.Native.Nat.{ℕ, ◌+◌}
 use mathlib.Core.Path.{◌≡◌, sym, ap, ◌∙◌}
-use mathlib.Core.Bool.{true, false}
+use mathlib.Core.Bool.{true}
 use mathlib.Core.List.{◌++◌}
 use lib.ListN.{length, take, drop}
 use borrow.Author.Tests.{not-false}
@@ -9,7 +10,6 @@ use Rattle.session.specs.Kinds.{record_length}
 use Rattle.session.specs.Layout.{kind_in, bytes_of}
 use Rattle.session.specs.Decode.{allowed_in}
 use Rattle.session.proofs.ReadBack.{bytes-of-length}
-use Rattle.writer.specs.declared.record.Written.TheVariants.{Next}
 use Rattle.writer.specs.Write.{has_room, place_behind}
 use Rattle.writer.proofs.Cases.{stood}
 use mathlib.Core.Bool.{not}
@@ -24,4 +24,4 @@ returns c =
     let p = c.put_record.ensures in
     let q : c.put_record.result ≡ place_behind a.at a.r = p.next ∙ ap (λ (n : ℕ). a.at + n) (bytes-of-length a.r) in
     let s = stood (allowed_in a.r) d a.at (record_length (kind_in a.r)) (bytes_of a.r) u o in
-    (ap Next q ∙ s.0, p.whole ∙ ap (λ (n : ℕ). take a.at d ++ (bytes_of a.r ++ drop n d)) q ∙ s.1)
+    (ap Ok q ∙ s.0, p.whole ∙ ap (λ (n : ℕ). take a.at d ++ (bytes_of a.r ++ drop n d)) q ∙ s.1)

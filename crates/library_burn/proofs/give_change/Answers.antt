@@ -1,0 +1,13 @@
+-- By the case of the answer. Assumes nothing.
+use native.Mathlib.Omega.{arith}
+use Rattle.library_burn.specs.Burns.{change_told}
+use Rattle.lent.proofs.Gives.{put}
+use Rattle.library_burn.proofs.give_change.Goals as goal
+
+pub returns-in-Closed : goal.returns-in-Closed
+unfolding change_told
+returns-in-Closed c = rw c.in-Closed.is (put c.put_numbers.ensures c.put_wholes.ensures (omega arith, omega arith) (omega arith, omega arith))
+
+pub returns-in-Open : goal.returns-in-Open
+unfolding change_told
+returns-in-Open c = rw c.in-Open.is (put c.put_numbers-in-Open.ensures c.put_wholes-in-Open.ensures (omega arith, omega arith) (omega arith, omega arith))
