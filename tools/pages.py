@@ -5,7 +5,7 @@ those that its routine's definitions can give.
   tools/pages.py           say what is not true
   tools/pages.py --write   put what the programs give into the blocks, then say what is left
 
-A block is ```desk (requests behind `> `), ```list FILE, or ```shell (commands behind `$ `, run in the project's root;
+A block is ```desk (requests after `> `), ```list FILE, or ```shell (commands after `$ `, run in the project's root;
 what they say on standard error is not shown).
 """
 import pathlib
@@ -20,7 +20,7 @@ CABIN = ROOT / "cabin"
 # page: where its definitions give a refusal its number, and how it is written there; TESTS is a routine's list of tests
 TESTS = r"\w+_tests"
 REFUSED = r"\b(?:Refused|Err) (\d+)"
-LOOKED = ("settings/specs/History", r"\bErr (23|30)")  # where a version is named
+LOOKED = ("settings/specs/History", REFUSED, "look_up")  # where a version is named: of that definition alone
 CASES = {
     "advance": [LOOKED, ("kepler/specs/Kepler", TESTS), ("kepler/specs/Kepler", r"^result_row .*= position_components (9)"), ("solve/specs/Answers", r"^advanced_number .*= (7|8|29)$")],
     "transfer-velocity": [LOOKED, ("lambert/specs/Lambert", TESTS), ("lambert/specs/Lambert", r"^result_row .*= velocity_components (9)"), ("solve/specs/Answers", r"^transferred_number .*= (7|8|29)$")],
@@ -68,11 +68,14 @@ def rows_of(name):
 
 def numbers_defined(page):
     found = set()
-    for name, pattern in CASES[page]:
+    for name, pattern, *definition in CASES[page]:
         if pattern is TESTS:
             found |= rows_of(name)
         else:
-            found.update(re.findall(pattern, specs(name), re.M))
+            text = specs(name)
+            for word in definition:
+                text = re.search(rf"^{word} .*?(?=\n\n|\Z)", text, re.M | re.S)[0]
+            found.update(re.findall(pattern, text, re.M))
     return found
 
 
@@ -100,7 +103,7 @@ def replies(bodies):
 
 
 def answered(body, prompt, answer):
-    """A block's questions, each with its answer behind it."""
+    """A block's questions, each with its answer after it."""
     asked = re.findall(rf"^{re.escape(prompt)} (.*)\n", body, re.M)
     return "".join(f"{prompt} {line}\n{answer(line)}" for line in asked)
 
