@@ -1,7 +1,8 @@
 #!/usr/bin/env bash
-# library.sh PART: the library as its callers have it. Parts: header (cabin.h as C11 and as C++17, with all warnings), example
-# (examples/rendezvous.c, held to its stored output), requests (the stored requests and fresh ones by a C driver, whose
-# answers are the desk's to the byte), records and versions (fresh sessions, texts and settings by the driver and by ./cabin).
+# library.sh PART: the library as its callers have it. Parts: header (cabin.h as C11 and as C++17, with all warnings, and what
+# the archive needs from outside), example (examples/rendezvous.c, held to its stored output), requests (the stored requests
+# and fresh ones by a C driver, whose answers are the desk's to the byte), records and versions (fresh sessions, texts and
+# settings by the driver and by ./cabin).
 home=$(cd "$(dirname "${BASH_SOURCE[0]}")/.." && pwd -P)
 . "$home/tools/front.sh"
 cd "$home"
@@ -17,6 +18,15 @@ header() {
     gcc -std=c11 "${warnings[@]}" -Wstrict-prototypes -fsyntax-only -x c library/cabin.h
     g++ -std=c++17 "${warnings[@]}" -fsyntax-only -x c++ library/cabin.h
     echo "cabin.h: C11 and C++17, no warning"
+    needs "$room/libcabin.a"
+}
+
+# What the archive needs from outside: docs/pages/library.md promises that it is one name.
+needs() { # ARCHIVE
+    local names
+    names=$(nm -u "$1" | awk 'NF == 2 && $1 == "U" { print $2 }' | sort -u)
+    [ "$names" = memcpy ] || fail "the archive needs ${names//$'\n'/, } from outside, and docs/pages/library.md says memcpy alone"
+    echo "libcabin.a: needs memcpy alone"
 }
 
 example() {

@@ -1,5 +1,4 @@
 -- Line by line, and how long what ends it can be. Assumes nothing.
-use Rattle.refusal.specs.Refusals.{number_of}
 use Prim.Native.Nat.{ℕ, min, ◌+◌, ◌^◌, ◌≤◌, ◌<◌}
 use native.Mathlib.Omega.{arith}
 use mathlib.Core.Path.{◌≡◌, refl, ap}
@@ -57,7 +56,7 @@ turn-within d p line y h e = within d p.at (entry_of line) y.at h (going (one_mo
 told-fits : (line : ℕ) (f : Fault) → length (concat (told_pieces line f)) ≤ tell_room
 unfolding concat fault_pieces
 told-fits l (Unread w) = simp length-append (omega (arith, at_most 20 l, at_most 20 w))
-told-fits l (Refused n) = simp length-append (omega (arith, at_most 20 l, at_most 20 (number_of n)))
+told-fits l (Refused n) = simp length-append (omega (arith, at_most 20 l, at_most 20 n))
 
 pub tell-fits : (t : Result Progress Ended) → length (concat (tell_pieces t)) ≤ tell_room
 unfolding concat

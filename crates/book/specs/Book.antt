@@ -1,6 +1,5 @@
 -- Lines entered one behind the other. Assumes nothing: these are definitions.
 use Rattle.std.specs.Prelude.{ℕ, ◌+◌, List, [], ◌∷◌, cond, ltb, Err, Ok, Result}
-use Rattle.refusal.specs.Refusals.{number_of}
 use Rattle.text.specs.Text.{ascii, decimal}
 use Rattle.text.specs.Pieces.{concat}
 use Rattle.entry.specs.Entries.{entry_of}
@@ -50,7 +49,7 @@ fault_pieces line word n = ascii "line " ∷ decimal line ∷ word ∷ decimal n
 -- `line L: unread W`, `line L: refused N`
 abbrev pub told_pieces : ℕ → Fault → List (List ℕ)
 told_pieces line (Unread word) = fault_pieces line (ascii ": unread ") word
-told_pieces line (Refused r) = fault_pieces line (ascii ": refused ") (number_of r)
+told_pieces line (Refused number) = fault_pieces line (ascii ": refused ") number
 
 abbrev pub tell_pieces : Result Progress Ended → List (List ℕ)
 tell_pieces (Ok p) = []

@@ -52,7 +52,7 @@ fn told_end(buf: &mut [u8], ended: Ended) -> usize
 {
     match ended.fault {
         Fault::Unread(word) => fault(buf, ended.line, b": unread ", word),
-        Fault::Refused(refusal) => fault(buf, ended.line, b": refused ", refusal.number() as u64),
+        Fault::Refused(number) => fault(buf, ended.line, b": refused ", number as u64),
     }
 }
 

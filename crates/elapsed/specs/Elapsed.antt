@@ -8,6 +8,10 @@ unfoldable pub raised : ℤ → ℕ
 raised (pos n) = 2 ^ 63 + n
 raised (negsuc n) = 2 ^ 63 - (1 + n)
 
+-- |a − b|
+abbrev pub apart_of : ℕ → ℕ → ℕ
+apart_of a b = (a - b) + (b - a)
+
 -- to − from is at least cs
 unfoldable pub at_least : ℤ → ℤ → ℕ → Bool
 at_least from to cs = int_le (pos cs) (to -ℤ from)

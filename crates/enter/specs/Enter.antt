@@ -1,5 +1,6 @@
 -- What entering a line into a session does. Assumes nothing: these are definitions.
 use Rattle.refusal.specs.declared.Refusal.{Refusal}
+use Rattle.refusal.specs.Refusals.{number_of}
 use Rattle.std.specs.Prelude.{ℕ, List, ℤ, Float, Err, Ok, Result}
 use Rattle.vector.specs.declared.Vector.{Vector}
 use Rattle.vector.specs.declared.State.{State}
@@ -39,7 +40,7 @@ entry_session d at (E.Mark t v x y) = buffer_of d at (mark_record t v x y)
 
 abbrev pub as_entered : Result ℕ Refusal → Result ℕ Fault
 as_entered (Ok n) = Ok n
-as_entered (Err n) = Err (Refused n)
+as_entered (Err r) = Err (Refused (number_of r))
 
 -- of a line, by what it says: the entry's answer, or the word that cannot be read
 abbrev pub entered_of : List ℕ → ℕ → Result Entry ℕ → Result ℕ Fault

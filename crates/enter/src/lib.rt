@@ -11,10 +11,10 @@ use entry::Entry;
 use records::{burn, mark, offset, state};
 use refusal::Refusal;
 
-// Why a line is not entered: the record that it says is refused, or its first word that cannot be read.
+// Why a line is not entered: the number of the refusal of the record that it says, or its first word that cannot be read.
 #[derive(Clone, Copy)]
 pub enum Fault {
-    Refused(Refusal),
+    Refused(u32),
     Unread(u64),
 }
 
@@ -51,5 +51,5 @@ pub fn enter(buf: &mut [u8], at: usize, line: &[u8]) -> Result<usize, Fault>
     ensures { (result ≡ entered_of buf.old at (entry_of line.now)) × (buf.new ≡ session_of buf.old at (entry_of line.now)) }
 {
     let e = entry::read(line).map_err(Fault::Unread)?;
-    enter_entry(buf, at, e).map_err(Fault::Refused)
+    enter_entry(buf, at, e).map_err(|r| Fault::Refused(r.number()))
 }

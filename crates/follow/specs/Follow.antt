@@ -1,6 +1,5 @@
 -- The lines of a session that comes in parts. Assumes nothing: these are definitions.
 use Rattle.refusal.specs.declared.Refusal.{Refusal}
-use Rattle.refusal.specs.Refusals.{number_of}
 use Rattle.std.specs.Prelude.{ℕ, List, [], ◌∷◌, ◌++◌, cond, length, ltb, Err, Ok, Result}
 use Rattle.session.specs.declared.Reading.{Reading}
 use Rattle.lines.specs.Lines.{line_room, heading_text, record_text, refused_text}
@@ -22,7 +21,7 @@ readings_text (a ∷ xs) = reading_text a ++ readings_text xs
 -- only a refusal has a last line
 abbrev pub ending_text : Ending → List ℕ
 ending_text ended = []
-ending_text (refused n at) = refused_text (number_of n) at
+ending_text (refused n at) = refused_text n at
 
 abbrev pub run_text : Run → List ℕ
 run_text x = readings_text x.readings ++ ending_text x.ending
@@ -34,7 +33,7 @@ watch_of s = heading_text ++ run_text (whole_run s)
 -- the line of a step of code
 abbrev pub last_text : Standing → List ℕ
 last_text (Open p k) = []
-last_text (Refused n at) = refused_text (number_of n) at
+last_text (Refused n at) = refused_text n at
 last_text Ended = []
 
 abbrev pub step_text : Step → List ℕ

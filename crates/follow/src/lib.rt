@@ -30,11 +30,7 @@ pub fn last_line(buf: &mut [u8], state: Standing) -> Result<usize, Refusal>
 {
     match state {
         Standing::Open(_, _) => no_line(buf),
-        Standing::Refused(refusal, at) => lines::refused_line(
-            buf,
-            refusal.number() as u8,
-            at as u64,
-        ),
+        Standing::Refused(number, at) => lines::refused_line(buf, number, at as u64),
         Standing::Ended => no_line(buf),
     }
 }

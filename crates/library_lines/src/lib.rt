@@ -3,16 +3,23 @@
 
 ghost use Rattle.std.specs.Prelude.{◌≡◌, leb, length};
 ghost use Rattle.lines.specs.Lines.{line_room, heading_text, refused_text};
-ghost use Rattle.lent.specs.Given.{GivenWholes, room_for, in_front, bytes_after};
-ghost use Rattle.library_lines.specs.Listing.{made_told, line_in, record_line, record_line_in};
+ghost use Rattle.lent.specs.Given.{GivenWholes, in_front, bytes_after};
+ghost use Rattle.library_lines.specs.Listing.{by_number, GivenMade, line_in, record_line, record_line_in};
 
 use lent::put_wholes;
 use library_records::record_from;
 use refusal::Refusal;
 
-// The length of a line that was made.
-pub fn give_made(a: Result<usize, Refusal>, whole: &mut [u64]) -> u32
-    ensures { GivenWholes (room_for (leb 1 (length whole.old)) (made_told a)) whole.old whole.new result }
+// A refusal as its number.
+pub fn by_number(a: Result<usize, Refusal>) -> Result<usize, u32>
+    ensures { result ≡ by_number a }
+{
+    a.map_err(|r| r.number())
+}
+
+// The length of a line that was made, or the number of the refusal, whatever number it is.
+pub fn give_made(a: Result<usize, u32>, whole: &mut [u64]) -> u32
+    ensures { GivenMade (leb 1 (length whole.old)) a whole.old whole.new result }
 {
     if whole.len() < 1 {
         return 15;
@@ -23,7 +30,7 @@ pub fn give_made(a: Result<usize, Refusal>, whole: &mut [u64]) -> u32
             put_wholes(whole, &zs);
             0
         }
-        Err(n) => n.number(),
+        Err(n) => n,
     }
 }
 
@@ -33,7 +40,7 @@ pub fn cabin_heading(line: &mut [u8], whole: &mut [u64]) -> u32
     if whole.len() < 1 {
         return 15;
     }
-    give_made(lines::heading(line), whole)
+    give_made(by_number(lines::heading(line)), whole)
 }
 
 pub fn cabin_refused_line(number: u8, at: u64, line: &mut [u8], whole: &mut [u64]) -> u32
@@ -42,7 +49,7 @@ pub fn cabin_refused_line(number: u8, at: u64, line: &mut [u8], whole: &mut [u64
     if whole.len() < 1 {
         return 15;
     }
-    give_made(lines::refused_line(line, number, at), whole)
+    give_made(by_number(lines::refused_line(line, number, at)), whole)
 }
 
 pub fn cabin_record_line(
@@ -66,5 +73,5 @@ pub fn cabin_record_line(
     }
     let none = [0.0];
     let r = record_from(kind, vehicle, 0, time, &none);
-    give_made(lines::record_line(line, r, offset), whole)
+    give_made(by_number(lines::record_line(line, r, offset)), whole)
 }

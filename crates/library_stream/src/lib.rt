@@ -3,8 +3,8 @@
 
 ghost use Rattle.std.specs.Prelude.{◌≤◌, ◌≡◌, length};
 ghost use Rattle.stream.specs.declared.Step.TheVariants as P;
-ghost use Rattle.lent.specs.Given.{Given, GivenWholes};
-ghost use Rattle.library_stream.specs.Parts.{standing_told, step_told, take_in, room_after};
+ghost use Rattle.lent.specs.Given.{numbers_after, wholes_after, Given};
+ghost use Rattle.library_stream.specs.Parts.{standing_told, step_told, standing_number, step_number, take_in, room_after};
 
 use field::bits_of;
 use lent::put_wholes;
@@ -36,7 +36,8 @@ fn give_next(r: Record, p: Place, n: usize, out: &mut [f64], whole: &mut [u64]) 
 
 fn give_standing(s: Standing, whole: &mut [u64]) -> u32
     requires { 7 ≤ length whole.old }
-    ensures { GivenWholes (standing_told s) whole.old whole.new result }
+    ensures number { result ≡ standing_number s }
+    ensures wholes { whole.new ≡ wholes_after (standing_told s) whole.old }
 {
     match s {
         Standing::Open(p, k) => {
@@ -45,7 +46,7 @@ fn give_standing(s: Standing, whole: &mut [u64]) -> u32
             put_wholes(whole, &zs);
             0
         }
-        Standing::Refused(n, _) => n.number(),
+        Standing::Refused(n, _) => n as u32,
         Standing::Ended => {
             let zs = [0];
             put_wholes(whole, &zs);
@@ -56,7 +57,9 @@ fn give_standing(s: Standing, whole: &mut [u64]) -> u32
 
 fn give_step(a: Step, out: &mut [f64], whole: &mut [u64]) -> u32
     requires { (6 ≤ length out.old) × (7 ≤ length whole.old) }
-    ensures { Given (step_told a) out.old whole.old out.new whole.new result }
+    ensures number { result ≡ step_number a }
+    ensures numbers { out.new ≡ numbers_after (step_told a) out.old }
+    ensures wholes { whole.new ≡ wholes_after (step_told a) whole.old }
 {
     match a {
         Step::Record(r, p, n) => give_next(r, p, n, out, whole),

@@ -41,18 +41,20 @@ unfolding looked_of
 looked-fits (Wheel e) = wheel-fits (wheel_of e)
 looked-fits (Sight active passive elevation horizontal vertical) = sight-fits (sight_of active passive elevation horizontal vertical)
 
-pub reply-fits : (used : List ℕ) (q : Request) → length (concat (reply_of used q)) ≤ reply_room
+-- of a request that was read
+pub request-fits : (used : List ℕ) (q : Request) → length (concat (reply_of used q)) ≤ reply_room
 unfolding concat
-reply-fits used Nothing = lit≤ tt
-reply-fits used (Root x) = answer-fits (root_answer x)
-reply-fits used (C xi) = answer-fits (c_answer xi)
-reply-fits used (S xi) = answer-fits (s_answer xi)
-reply-fits used (Trial asked lo hi below above k) = tried-fits (single_trial_of asked lo hi below above k)
-reply-fits used (Q.Look x) = looked-fits x
-reply-fits used (Q.Solve x) = solved-fits used x
-reply-fits used (Burn body radius mu active ta passive tp t2 t3) = burn-fits (burn_of (record { body = body; radius = radius; mu = mu }) active ta passive tp t2 t3)
-reply-fits used (Q.Why x) = reason-fits (inquiry_of used x)
+request-fits used Nothing = lit≤ tt
+request-fits used (Root x) = answer-fits (root_answer x)
+request-fits used (C xi) = answer-fits (c_answer xi)
+request-fits used (S xi) = answer-fits (s_answer xi)
+request-fits used (Trial asked lo hi below above k) = tried-fits (single_trial_of asked lo hi below above k)
+request-fits used (Q.Look x) = looked-fits x
+request-fits used (Q.Solve x) = solved-fits used x
+request-fits used (Burn body radius mu active ta passive tp t2 t3) = burn-fits (burn_of (record { body = body; radius = radius; mu = mu }) active ta passive tp t2 t3)
+request-fits used (Q.Why x) = reason-fits (inquiry_of used x)
 
-pub line-fits : (used : List ℕ) (r : Result Request ℕ) → length (concat (line_reply used r)) ≤ reply_room
-line-fits used (Ok q) = reply-fits used q
-line-fits used (Err w) = unread-fits w
+-- of every line: a request, or a word that cannot be read
+pub reply-fits : (used : List ℕ) (r : Result Request ℕ) → length (concat (line_reply used r)) ≤ reply_room
+reply-fits used (Ok q) = request-fits used q
+reply-fits used (Err w) = unread-fits w

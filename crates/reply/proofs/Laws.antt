@@ -64,18 +64,18 @@ module _ (used other : List ℕ) where
   asked-alike (Theta mu state sine cosine) = refl
   asked-alike (Apsides mu state) = refl
 
-  pub not-looked-at : (q : Request) → Unversioned q → reply_of used q ≡ reply_of other q
-  not-looked-at Nothing h = refl
-  not-looked-at (Root x) h = refl
-  not-looked-at (C xi) h = refl
-  not-looked-at (S xi) h = refl
-  not-looked-at (Trial asked lo hi below above k) h = refl
-  not-looked-at (Q.Look x) h = refl
-  not-looked-at (Q.Solve x) h = ap (solved_of used) h ∙ solved-alike x ∙ ap (solved_of other) (sym h)
-  not-looked-at (Burn body radius mu active ta passive tp t2 t3) h = refl
-  not-looked-at (Q.Why x) h = ap reason_pieces (ap (inquiry_of used) h ∙ asked-alike x ∙ ap (inquiry_of other) (sym h))
+  pub request-not-looked-at : (q : Request) → Unversioned q → reply_of used q ≡ reply_of other q
+  request-not-looked-at Nothing h = refl
+  request-not-looked-at (Root x) h = refl
+  request-not-looked-at (C xi) h = refl
+  request-not-looked-at (S xi) h = refl
+  request-not-looked-at (Trial asked lo hi below above k) h = refl
+  request-not-looked-at (Q.Look x) h = refl
+  request-not-looked-at (Q.Solve x) h = ap (solved_of used) h ∙ solved-alike x ∙ ap (solved_of other) (sym h)
+  request-not-looked-at (Burn body radius mu active ta passive tp t2 t3) h = refl
+  request-not-looked-at (Q.Why x) h = ap reason_pieces (ap (inquiry_of used) h ∙ asked-alike x ∙ ap (inquiry_of other) (sym h))
 
   -- nor for a line with a word that cannot be read
-  pub line-not-looked-at : (r : Result Request ℕ) → UnversionedLine r → line_reply used r ≡ line_reply other r
-  line-not-looked-at (Ok q) h = not-looked-at q h
-  line-not-looked-at (Err w) h = refl
+  pub not-looked-at : (r : Result Request ℕ) → UnversionedLine r → line_reply used r ≡ line_reply other r
+  not-looked-at (Ok q) h = request-not-looked-at q h
+  not-looked-at (Err w) h = refl

@@ -73,7 +73,7 @@ module _ (p : Place) (k : ℕ) (d part : List ℕ) (from : ℕ) (s : Sound p k d
   step_open_lem : step_open p k d part from ≡ step_in from (move_of (reading p (take k d)) (drop from part))
   step_open_lem =
       sym (is-passed p k d part from counted h (is_sound_lem p k d s)).0
-      ∙ sym (ap (λ (b : Bool). step_in from (cond b (none (stopped (refused Refusal.NoRoom p.at))) (move_for (found_at p (seen (take k d) (drop from part))) p (take k d) (drop from part)))) counted-too)
+      ∙ sym (ap (λ (b : Bool). step_in from (cond b (none (stopped (refused 15 p.at))) (move_for (found_at p (seen (take k d) (drop from part))) p (take k d) (drop from part)))) counted-too)
 
   room_open_lem : room_open p k d part from ≡ room_on k d part from
   room_open_lem = sym (is-passed p k d part from counted h (is_sound_lem p k d s)).1
@@ -93,7 +93,7 @@ module _ (p : Place) (k : ℕ) (d part : List ℕ) (from : ℕ) (s : Sound p k d
       ∙ take_at (take k d ++ drop from part) (drop (k + length (drop from part)) d) (length (take k d ++ drop from part)) refl
 
   by-eleven : (n : Refusal) (b : Bool) → eqb (number_of n) 11 ≡ b → found_at p (seen (take k d) (drop from part)) ≡ D.Refused n
-      → Holds (none (cond b (reading p (take k d ++ drop from part)) (stopped (refused n p.at)))) (room_on k d part from)
+      → Holds (none (cond b (reading p (take k d ++ drop from part)) (stopped (refused (number_of n) p.at)))) (room_on k d part from)
   by-eleven n true i e = waits (e ∙ ap D.Refused (cut_number n (eqb-true (number_of n) 11 i)))
   by-eleven n false i e = tt
 
@@ -191,7 +191,7 @@ tests_by false false true u v z s i j e h = (refl, refl, refl)
 passed-all : (x : Standing) (d part : List ℕ) (from : ℕ) (s : Step) → s ≡ step_of x d part from → is_stop s ≡ false
     → Ready x d × (taken (reader_of x d) + length (drop from part) ≤ most_bytes)
 passed-all (Open p k) d part from s e h =
-    let t = tests_by (ltb most_bytes (p.at + k + length (drop from part))) (ltb (length d) 62) (is_sound p (take k d)) (S.Stopped (Refused Refusal.NoRoom p.at)) (S.Stopped (Refused Refusal.NotAllowed p.at)) (step_on p k d part from) s refl refl e h in
+    let t = tests_by (ltb most_bytes (p.at + k + length (drop from part))) (ltb (length d) 62) (is_sound p (take k d)) (S.Stopped (Refused 15 p.at)) (S.Stopped (Refused 14 p.at)) (step_on p k d part from) s refl refl e h in
     let r = ltb-false (length d) 62 t.1 in
     let o = sound p k d r t.2 in
     let l = length-take-le k d (omega (arith, o.fits, r)) in
@@ -253,7 +253,7 @@ calls-law (sets {x} {d} {p} {from} {q} {at} {xs} {z} {f} w cs) s h =
 end_by : (x : Standing) (d : List ℕ) → Ready x d → end_in (finish_of x) ≡ end_of (reader_of x d)
 end_by (Open p zero) d s = refl
 end_by (Open p (suc k)) [] s = let w : ⊥ = omega (arith, s.room) in absurd w
-end_by (Open p (suc k)) (b ∷ d) s = ap (λ (z : Bool). end_in (cond z Ended (Refused Refusal.CutShort p.at))) (ne_eqb (suc k) 0 (λ e. let w : ⊥ = omega (arith, e) in w))
+end_by (Open p (suc k)) (b ∷ d) s = ap (λ (z : Bool). end_in (cond z Ended (Refused 11 p.at))) (ne_eqb (suc k) 0 (λ e. let w : ⊥ = omega (arith, e) in w))
 end_by (Refused n at) d s = refl
 end_by Ended d s = refl
 
@@ -285,13 +285,13 @@ empty-part Ended d part from y h l = (refl, refl)
 
 -- a count over its limit is 15, ahead of all but a repeated answer: whatever is kept, in whatever room
 pub over : (p : Place) (k : ℕ) (d part : List ℕ) (from : ℕ) → most_bytes < p.at + k + (length part - from)
-    → (step_of (Open p k) d part from ≡ S.Stopped (Refused Refusal.NoRoom p.at)) × (room_of (Open p k) d part from ≡ d)
+    → (step_of (Open p k) d part from ≡ S.Stopped (Refused 15 p.at)) × (room_of (Open p k) d part from ≡ d)
 over p k d part from h =
     let o = is-over p k d part from (lt-ltb most_bytes (p.at + k + (length part - from)) h) in
     (sym o.0, sym o.1)
 
 -- after a refusal or an end, each later call gives that answer again and changes no byte of the room
-pub again-refused : (n : Refusal) (at : ℕ) (d part : List ℕ) (from : ℕ)
+pub again-refused : (n at : ℕ) (d part : List ℕ) (from : ℕ)
     → (step_of (Refused n at) d part from ≡ S.Stopped (Refused n at)) × (room_of (Refused n at) d part from ≡ d) × (finish_of (Refused n at) ≡ Refused n at)
 again-refused n at d part from = (refl, refl, refl)
 
@@ -300,5 +300,5 @@ pub again-ended : (d part : List ℕ) (from : ℕ)
 again-ended d part from = (refl, refl, refl)
 
 -- an end call stops the reader: with an unfinished record it is 11 at the place where the record starts
-pub end-call : (p : Place) (k : ℕ) → (finish_of (Open p 0) ≡ Ended) × (finish_of (Open p (suc k)) ≡ Refused Refusal.CutShort p.at)
-end-call p k = (refl, ap (λ (b : Bool). cond b Ended (Refused Refusal.CutShort p.at)) (ne_eqb (suc k) 0 (λ e. let w : ⊥ = omega (arith, e) in w)))
+pub end-call : (p : Place) (k : ℕ) → (finish_of (Open p 0) ≡ Ended) × (finish_of (Open p (suc k)) ≡ Refused 11 p.at)
+end-call p k = (refl, ap (λ (b : Bool). cond b Ended (Refused 11 p.at)) (ne_eqb (suc k) 0 (λ e. let w : ⊥ = omega (arith, e) in w)))

@@ -1,6 +1,5 @@
 -- The document's burn in three parts, one of them empty; its front alone; an unknown kind behind it; and an offset's record
 -- that is cut in its middle. Assumes nothing.
-use Rattle.refusal.specs.declared.Refusal.TheVariants as Refusal
 use Prim.Native.Nat.{ℕ}
 use mathlib.Core.Path.{◌≡◌, refl}
 use mathlib.Core.List.{List, [], ◌∷◌, ◌++◌}
@@ -21,11 +20,11 @@ pub burn-parts : parts_of (reading start []) (take 3 burn ∷ [] ∷ drop 3 burn
 unfolding run_in parts_of feed_in all_finite numbers_from of_bits
 burn-parts = refl
 
-pub burn-cut : (parts_of (reading start []) (burn ∷ take 3 burn ∷ [])).ending ≡ refused Refusal.CutShort 38
+pub burn-cut : (parts_of (reading start []) (burn ∷ take 3 burn ∷ [])).ending ≡ refused 11 38
 unfolding parts_of feed_in all_finite numbers_from of_bits
 burn-cut = refl
 
-pub burn-unknown : (parts_of (reading start []) (take 37 burn ∷ (drop 37 burn ++ (38 ∷ [])) ∷ (0 ∷ 9 ∷ []) ∷ (0 ∷ []) ∷ [])).ending ≡ refused Refusal.UnknownKind 38
+pub burn-unknown : (parts_of (reading start []) (take 37 burn ∷ (drop 37 burn ++ (38 ∷ [])) ∷ (0 ∷ 9 ∷ []) ∷ (0 ∷ []) ∷ [])).ending ≡ refused 13 38
 unfolding parts_of feed_in all_finite numbers_from of_bits
 burn-unknown = refl
 
@@ -38,6 +37,6 @@ unfolding parts_of feed_in sixty
 offset-parts = refl
 
 -- the same record again is not the first one
-pub offset-twice : (parts_of (reading start []) (sixty ∷ take 7 sixty ∷ drop 7 sixty ∷ [])).ending ≡ refused Refusal.NotAllowed 8
+pub offset-twice : (parts_of (reading start []) (sixty ∷ take 7 sixty ∷ drop 7 sixty ∷ [])).ending ≡ refused 14 8
 unfolding parts_of feed_in sixty
 offset-twice = refl

@@ -64,21 +64,21 @@ module _ (p : Place) (k : ℕ) (d : List ℕ) where
       passed e h s = rw (count false e, le-ltb (length d) 62 h, s) refl
 
     abbrev u : Step
-    u = S.Stopped (Refused Refusal.NoRoom p.at)
+    u = S.Stopped (Refused 15 p.at)
 
     abbrev v : Step
-    v = S.Stopped (Refused Refusal.NotAllowed p.at)
+    v = S.Stopped (Refused 14 p.at)
 
     pub is-over : ltb most_bytes (p.at + k + (length part - from)) ≡ true
-        → (S.Stopped (Refused Refusal.NoRoom p.at) ≡ step_open p k d part from) × (d ≡ room_open p k d part from)
+        → (S.Stopped (Refused 15 p.at) ≡ step_open p k d part from) × (d ≡ room_open p k d part from)
     is-over e = (over u v (step_on p k d part from) e, over d d (room_on k d part from) e)
 
     pub is-small : ltb most_bytes (p.at + k + (length part - from)) ≡ false → length d < 62
-        → (S.Stopped (Refused Refusal.NoRoom p.at) ≡ step_open p k d part from) × (d ≡ room_open p k d part from)
+        → (S.Stopped (Refused 15 p.at) ≡ step_open p k d part from) × (d ≡ room_open p k d part from)
     is-small e h = (small u v (step_on p k d part from) e h, small d d (room_on k d part from) e h)
 
     pub is-unsound : ltb most_bytes (p.at + k + (length part - from)) ≡ false → 62 ≤ length d → is_sound p (take k d) ≡ false
-        → (S.Stopped (Refused Refusal.NotAllowed p.at) ≡ step_open p k d part from) × (d ≡ room_open p k d part from)
+        → (S.Stopped (Refused 14 p.at) ≡ step_open p k d part from) × (d ≡ room_open p k d part from)
     is-unsound e h s = (unsound u v (step_on p k d part from) e h s, unsound d d (room_on k d part from) e h s)
 
     pub is-passed : ltb most_bytes (p.at + k + (length part - from)) ≡ false → 62 ≤ length d → is_sound p (take k d) ≡ true

@@ -67,7 +67,7 @@ never n h y =
     let w : ⊥ = omega arith in w
 
 -- only what is not empty is refused with another number than 11
-full : (p : Place) (s : List ℕ) (n : Refusal) → found_at p s ≡ Refused n → eqb (number_of n) 11 ≡ false → ending_of s n p.at ≡ refused n p.at
+full : (p : Place) (s : List ℕ) (n : Refusal) → found_at p s ≡ Refused n → eqb (number_of n) 11 ≡ false → ending_of s (number_of n) p.at ≡ refused (number_of n) p.at
 full p [] n e h = absurd (never n h (sym e))
 full p (b ∷ s) n e h = refl
 
@@ -140,7 +140,7 @@ module _ (p : Place) (kept rest : List ℕ) (k : Kept (reading p kept)) where
         same = λ t. ap (whole_from p) (sym (append_assoc kept rest t));
       }
 
-  stops : (n : Refusal) → found_at p (seen kept rest) ≡ Refused n → eqb (number_of n) 11 ≡ false → Stays (reading p kept) rest [] (stopped (refused n p.at))
+  stops : (n : Refusal) → found_at p (seen kept rest) ≡ Refused n → eqb (number_of n) 11 ≡ false → Stays (reading p kept) rest [] (stopped (refused (number_of n) p.at))
   stops n e h =
       record {
         kept = tt;
@@ -151,7 +151,7 @@ module _ (p : Place) (kept rest : List ℕ) (k : Kept (reading p kept)) where
       }
 
   by-eleven : (n : Refusal) (b : Bool) → eqb (number_of n) 11 ≡ b → found_at p (seen kept rest) ≡ Refused n
-      → Stays (reading p kept) rest [] (cond b (reading p (kept ++ rest)) (stopped (refused n p.at)))
+      → Stays (reading p kept) rest [] (cond b (reading p (kept ++ rest)) (stopped (refused (number_of n) p.at)))
   by-eleven n true i e = waits (e ∙ ap Refused (cut_number n (eqb-true (number_of n) 11 i)))
   by-eleven n false i e = stops n e i
 

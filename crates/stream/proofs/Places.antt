@@ -1,5 +1,6 @@
 -- Reading whole is what the session's reader does from place to place, where its limit lets it. Assumes nothing.
 use Rattle.refusal.specs.declared.Refusal.{Refusal}
+use Rattle.refusal.specs.Refusals.{number_of}
 use Prim.Native.Nat.{ℕ, ◌+◌, ◌-◌, ◌≤◌, ◌<◌}
 use native.Mathlib.Omega.{arith}
 use mathlib.Core.Path.{◌≡◌, refl, sym, ap, ◌∙◌}
@@ -25,9 +26,9 @@ abbrev pub go_on : List ℕ → Reading → Run
 go_on s (Record r q) = with_reading (Record r q) (whole_from q (drop q.at s))
 go_on s (Offset q) = with_reading (Offset q) (whole_from q (drop q.at s))
 go_on s End = stop ended
-go_on s (Refused n q) = stop (refused n q.at)
+go_on s (Refused n q) = stop (refused (number_of n) q.at)
 
-full : (l : List ℕ) (n : Refusal) (at : ℕ) → 0 < length l → ending_of l n at ≡ refused n at
+full : (l : List ℕ) (n at : ℕ) → 0 < length l → ending_of l n at ≡ refused n at
 full [] n at h = let w : ⊥ = omega arith in absurd w
 full (b ∷ l) n at h = refl
 
@@ -48,7 +49,7 @@ module _ (s : List ℕ) (p : Place) where
       let b : p.at + 8 ≡ 8 = omega (arith, a) in
       whole-offset p q (drop p.at s) refl e
       ∙ ap (λ (l : List ℕ). with_reading (Offset q) (whole_from q l)) (drop-drop 8 p.at s ∙ ap (λ (j : ℕ). drop j s) b)
-  by-decoded (D.Refused n) e h = whole-refused p (drop p.at s) n e ∙ ap stop (full (drop p.at s) n p.at h)
+  by-decoded (D.Refused n) e h = whole-refused p (drop p.at s) n e ∙ ap stop (full (drop p.at s) (number_of n) p.at h)
 
   by_end : (b : Bool) → eqb p.at (length s) ≡ b → p.at ≤ length s
       → whole_from p (drop p.at s) ≡ go_on s (cond b End (placed (found_at p (drop p.at s)) p))

@@ -125,6 +125,6 @@ module _ {p : Place} {kept from n : ℕ} {d part e : List ℕ} (g : Lies p kept 
       sym (length-take-le n e inner) ∙ ap length looked ∙ ap (λ (x : List ℕ). length (take kept d ++ x)) a in
       ap (λ (j : ℕ). S.Stopped (Open p j)) l ∙ sym (moved (D.Refused Refusal.CutShort) i)
 
-  pub is-refused : (m : Refusal) → (number_of m ≡ 11 → ⊥) → found_at p (take n e) ≡ D.Refused m → S.Stopped (Refused m p.at) ≡ step_on p kept d part from
+  pub is-refused : (m : Refusal) → (number_of m ≡ 11 → ⊥) → found_at p (take n e) ≡ D.Refused m → S.Stopped (Refused (number_of m) p.at) ≡ step_on p kept d part from
   is-refused m h i =
-      sym (moved (D.Refused m) i ∙ ap (λ (b : Bool). step_in from (none (cond b (reading p (take kept d ++ drop from part)) (stopped (refused m p.at))))) (ne_eqb (number_of m) 11 h))
+      sym (moved (D.Refused m) i ∙ ap (λ (b : Bool). step_in from (none (cond b (reading p (take kept d ++ drop from part)) (stopped (refused (number_of m) p.at))))) (ne_eqb (number_of m) 11 h))

@@ -1,5 +1,6 @@
 -- Reading whole, record by record. Assumes nothing.
 use Rattle.refusal.specs.declared.Refusal.{Refusal}
+use Rattle.refusal.specs.Refusals.{number_of}
 use Prim.Native.Nat.{ℕ, zero, suc, ◌≤◌, ◌<◌}
 use native.Mathlib.Omega.{arith}
 use mathlib.Core.Path.{◌≡◌, refl, sym, ap, ◌∙◌}
@@ -63,6 +64,6 @@ whole-offset p q s t e =
     ∙ ap (with_reading (A.Offset o)) (enough (length s) (suc (length (drop 8 s))) (found_at o (drop 8 s)) o (drop 8 s) refl m (omega arith))
     ∙ ap (λ (a : Place). with_reading (A.Offset a) (whole_from a (drop 8 s))) u
 
-pub whole-refused : (p : Place) (s : List ℕ) (n : Refusal) → found_at p s ≡ Refused n → whole_from p s ≡ stop (ending_of s n p.at)
+pub whole-refused : (p : Place) (s : List ℕ) (n : Refusal) → found_at p s ≡ Refused n → whole_from p s ≡ stop (ending_of s (number_of n) p.at)
 unfolding run_in
 whole-refused p s n e = ap (λ (d : Decoded). run_in (suc (length s)) d p s) e

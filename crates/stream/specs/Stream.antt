@@ -1,6 +1,5 @@
 -- A session read whole, and a reader that takes it in parts. Assumes nothing: these are definitions.
 use Rattle.std.specs.Prelude.{ℕ, zero, suc, ◌+◌, ◌-◌, ◌^◌, List, [], ◌∷◌, ◌++◌, Bool, false, cond, not, ◌&&◌, length, take, drop, ltb, eqb}
-use Rattle.refusal.specs.declared.Refusal.{Refusal}
 use Rattle.refusal.specs.Refusals.{number_of}
 use Rattle.session.specs.declared.record.Record.{Record}
 use Rattle.session.specs.declared.record.Decoded.{Decoded}
@@ -16,10 +15,10 @@ use Rattle.stream.specs.declared.Standing.TheVariants.{Open, Refused, Ended}
 use Rattle.stream.specs.declared.Step.{Step}
 use Rattle.stream.specs.declared.Step.TheVariants as S
 
--- how reading ends: with no byte left, or with a refusal and its place from the start of the session
+-- how reading ends: with no byte left, or with a refusal's number and its place from the start of the session
 pub data Ending : Type 0 where
   ended : Ending
-  refused : Refusal → ℕ → Ending
+  refused : ℕ → ℕ → Ending
 
 -- what is read of a session, in its order: the records, each with the place and the local offset behind it, and the
 -- offset's record; and how it ends
@@ -36,8 +35,8 @@ with_reading a x = record { readings = a ∷ x.readings; ending = x.ending }
 abbrev pub joined : List Reading → Run → Run
 joined xs x = record { readings = xs ++ x.readings; ending = x.ending }
 
--- no byte left is the end; else the refusal at the place where the record starts
-abbrev pub ending_of : List ℕ → Refusal → ℕ → Ending
+-- no byte left is the end; else the number at the place where the record starts
+abbrev pub ending_of : List ℕ → ℕ → ℕ → Ending
 ending_of [] n at = ended
 ending_of (b ∷ s) n at = refused n at
 
@@ -57,7 +56,7 @@ run_in (suc f) (D.Whole r n) p s =
     with_reading (A.Record r (past p n)) (run_in f (found_at (past p n) (drop n s)) (past p n) (drop n s))
 run_in (suc f) (D.Offset z) p s =
     let q : Place = record { at = 8; offset = z } in with_reading (A.Offset q) (run_in f (found_at q (drop 8 s)) q (drop 8 s))
-run_in (suc f) (D.Refused n) p s = stop (ending_of s n p.at)
+run_in (suc f) (D.Refused n) p s = stop (ending_of s (number_of n) p.at)
 
 abbrev pub whole_from : Place → List ℕ → Run
 whole_from p s = run_in (suc (length s)) (found_at p s) p s
@@ -89,12 +88,12 @@ seen kept rest = kept ++ take (62 - length kept) rest
 abbrev pub move_for : Decoded → Place → List ℕ → List ℕ → Move
 move_for (D.Whole r n) p kept rest = got r (past p n) (n - length kept)
 move_for (D.Offset z) p kept rest = set (record { at = 8; offset = z }) (8 - length kept)
-move_for (D.Refused n) p kept rest = none (cond (eqb (number_of n) 11) (reading p (kept ++ rest)) (stopped (refused n p.at)))
+move_for (D.Refused n) p kept rest = none (cond (eqb (number_of n) 11) (reading p (kept ++ rest)) (stopped (refused (number_of n) p.at)))
 
 -- 15 ahead of all but a repeated answer
 abbrev pub move_of : Reader → List ℕ → Move
 move_of (reading p kept) rest =
-    cond (ltb most_bytes (p.at + length kept + length rest)) (none (stopped (refused Refusal.NoRoom p.at)))
+    cond (ltb most_bytes (p.at + length kept + length rest)) (none (stopped (refused 15 p.at)))
     (move_for (found_at p (seen kept rest)) p kept rest)
 move_of (stopped e) rest = none (stopped e)
 
@@ -120,7 +119,7 @@ feed_of x part = feed_in (suc (length part)) (move_of x part) part
 
 -- an end call: an unfinished record is 11
 abbrev pub end_of : Reader → Ending
-end_of (reading p kept) = ending_of kept Refusal.CutShort p.at
+end_of (reading p kept) = ending_of kept 11 p.at
 end_of (stopped e) = e
 
 -- the parts one after another, and an end call
@@ -171,7 +170,7 @@ opened p k d part from x y z =
 
 abbrev pub step_open : Place → ℕ → List ℕ → List ℕ → ℕ → Step
 step_open p k d part from =
-    opened p k d part from (S.Stopped (Refused Refusal.NoRoom p.at)) (S.Stopped (Refused Refusal.NotAllowed p.at)) (step_on p k d part from)
+    opened p k d part from (S.Stopped (Refused 15 p.at)) (S.Stopped (Refused 14 p.at)) (step_on p k d part from)
 
 abbrev pub room_open : Place → ℕ → List ℕ → List ℕ → ℕ → List ℕ
 room_open p k d part from = opened p k d part from d d (room_on k d part from)
@@ -189,6 +188,6 @@ room_of Ended d part from = d
 
 -- An end call of code.
 abbrev pub finish_of : Standing → Standing
-finish_of (Open p k) = cond (eqb k 0) Ended (Refused Refusal.CutShort p.at)
+finish_of (Open p k) = cond (eqb k 0) Ended (Refused 11 p.at)
 finish_of (Refused n at) = Refused n at
 finish_of Ended = Ended

@@ -4,6 +4,7 @@
 
 ghost use Rattle.std.specs.Prelude.{◌+◌, ◌-◌, ◌≤◌, ◌<◌, ◌≡◌, true, cond, length, take, drop, ltb};
 ghost use Rattle.text.specs.Text.{Stands};
+ghost use Rattle.refusal.specs.Refusals.{number_of};
 ghost use Rattle.session.specs.Limits.{offset_allowed};
 ghost use Rattle.session.specs.declared.record.Decoded.TheVariants as D;
 ghost use Rattle.stream.specs.Stream.{most_bytes, found_at, is_cut, is_sound, step_open, room_open, step_on, room_on, step_of, room_of, finish_of};
@@ -19,7 +20,7 @@ const LIMIT: usize = 0x7fff_ffff_ffff_ffff;
 #[derive(Clone, Copy)]
 pub enum Standing {
     Open(Place, usize),
-    Refused(Refusal, usize),
+    Refused(u8, usize),
     Ended,
 }
 
@@ -51,11 +52,18 @@ pub fn finish(state: Standing) -> Standing
             if kept == 0 {
                 Standing::Ended
             } else {
-                Standing::Refused(Refusal::CutShort, place.at)
+                refuse(Refusal::CutShort, place.at)
             }
         }
         Standing::Refused(_, _) | Standing::Ended => state,
     }
+}
+
+// A refusal stops the reader: it holds the number, and the place where the record starts.
+fn refuse(refusal: Refusal, at: usize) -> Standing
+    ensures { result ≡ Standing.Refused (number_of refusal) at }
+{
+    Standing::Refused(refusal.number() as u8, at)
 }
 
 // The tests ahead of the record: the count, the room, and whether such a place and such bytes are ever kept.
@@ -64,10 +72,10 @@ fn take_open(place: Place, kept: usize, room: &mut [u8], part: &[u8], from: usiz
 {
     let at = place.at;
     if passes(at, kept, part.len().saturating_sub(from)) || room.len() < 62 {
-        return Step::Stopped(Standing::Refused(Refusal::NoRoom, at));
+        return Step::Stopped(refuse(Refusal::NoRoom, at));
     }
     if !is_sound(place, kept, room) {
-        return Step::Stopped(Standing::Refused(Refusal::NotAllowed, at));
+        return Step::Stopped(refuse(Refusal::NotAllowed, at));
     }
     if from >= part.len() {
         return Step::Stopped(Standing::Open(place, kept));
@@ -122,6 +130,6 @@ fn go_on(place: Place, kept: usize, room: &mut [u8], part: &[u8], from: usize) -
     match decoded {
         Decoded::Whole(r, n) => Step::Record(r, Place { at: at + n, offset }, from + (n - kept)),
         Decoded::Offset(z) => Step::Offset(Place { at: 8, offset: z }, from + (8 - kept)),
-        Decoded::Refused(refusal) => Step::Stopped(Standing::Refused(refusal, at)),
+        Decoded::Refused(refusal) => Step::Stopped(refuse(refusal, at)),
     }
 }

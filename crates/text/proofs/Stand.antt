@@ -5,8 +5,8 @@ use native.Mathlib.Numerals.{add-one}
 use native.Mathlib.Omega.{arith}
 use mathlib.Core.Path.{◌≡◌, refl, sym, ap, ◌∙◌}
 use mathlib.Core.List.{List, [], ◌∷◌, ◌++◌, append_assoc}
-use lib.ListN.{length, take, drop, set, length-append, length-drop, take-append-drop}
-use lib.Seq.{length-take-le, take_at, drop_at, drop-drop, drop-append-le, take-append-le, take-take, set_split}
+use lib.ListN.{length, get_or, take, drop, set, length-append, length-drop, take-append-drop}
+use lib.Seq.{length-take-le, take_all, take-suc, take_at, drop_at, drop-drop, drop-append-le, take-append-le, take-take, set_split}
 use Rattle.text.specs.Text.{Stands}
 
 module _ {d : List ℕ} {a : ℕ} {x e : List ℕ} {r : ℕ} (p : Stands d a x e r) where
@@ -58,6 +58,17 @@ pub at_front : {d x e : List ℕ} {r : ℕ} → Stands d 0 x e r → (r ≡ leng
 at_front {d} {x} {e} {r} p =
     let n : r ≡ length x = omega (arith, p.next) in
     (n, p.whole ∙ ap (λ (k : ℕ). x ++ drop k d) n)
+
+-- a text that is copied grows by a byte, and is whole at its end
+pub grow : {d e : List ℕ} (x : List ℕ) {a : ℕ} (i : ℕ) → Stands d a (take i x) e (a + i) → i < length x → a + i < length e
+    → Stands d a (take (i + 1) x) (set e (a + i) (get_or x i 0)) (a + (i + 1))
+grow {d} {e} x {a} i p h l =
+    let t : take (i + 1) x ≡ take i x ++ (get_or x i 0 ∷ []) = rw add-one (take-suc x i 0 h) in
+    let n : a + (i + 1) ≡ a + i + 1 = omega arith in
+    rw (t, n) (then p (one e (a + i) (get_or x i 0) l))
+
+pub grown : {d e : List ℕ} (x : List ℕ) {a : ℕ} (i : ℕ) → Stands d a (take i x) e (a + i) → length x ≤ i → Stands d a x e (a + i)
+grown x i p h = rw (take_all i x h) at p
 
 -- What a callee that was lent the part `&mut d[o..o + k]` put at its front is put into the whole at o. For `&mut d[o..]` k is what is left.
 pub lent : {d x f : List ℕ} {r : ℕ} (o k : ℕ) → o + k ≤ length d → Stands (take k (drop o d)) 0 x f r

@@ -84,9 +84,10 @@ fn copy(buf: &mut [u8], at: usize, x: &[u8]) -> usize
     requires { at + length x.now ≤ length buf.old }
     ensures { Stands buf.old at x.now buf.new result }
 {
-    let end = at + x.len();
-    buf[at..end].copy_from_slice(x);
-    end
+    for i in 0..x.len() {
+        buf[at + i] = x[i];
+    }
+    at + x.len()
 }
 
 // How many decimal digits n has, of which `left` are counted at most.

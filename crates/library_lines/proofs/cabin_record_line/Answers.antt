@@ -12,7 +12,7 @@ use Rattle.library_records.specs.Records.{kind_from}
 use Rattle.library_lines.specs.Listing.{record_line, record_line_told}
 use Rattle.lent.proofs.Gives.{left-wholes, short-wholes, enough-wholes}
 use Rattle.library_records.proofs.Laws.{short-bytes, left-bytes}
-use Rattle.library_lines.proofs.Laws.{line-bytes, line-of}
+use Rattle.library_lines.proofs.Laws.{told-by-number, line-bytes, line-of}
 use Rattle.library_lines.proofs.cabin_record_line.Goals as goal
 
 pub returns-then-whole-lt1 : goal.returns-then-whole-lt1
@@ -35,4 +35,4 @@ returns c =
     let t = line-of (kind_from a.kind) a.vehicle 0 a.time (λ (i : ℕ). get_or (of_bits binary64 0 ∷ []) i nan) a.offset in
     let g = rw (c.record_from-r.ensures, m, o, t) at c.record_line.ensures in
     rw (le-leb _ _ c.if-whole-lt1.false, le-leb _ _ c.if-kind-lt1.false, le-leb _ _ c.if-kind-gt3.false)
-    (rw (g.answer, le-leb _ _ c.if-whole-lt1.false) at c.give_made.ensures, g.buffer ∙ line-bytes line_room (record_line a.kind a.vehicle a.time a.offset) a.line.now)
+    (rw (g.answer, le-leb _ _ c.if-whole-lt1.false) at (told-by-number _ c.record_line.result c.by_number.ensures c.give_made.ensures), g.buffer ∙ line-bytes line_room (record_line a.kind a.vehicle a.time a.offset) a.line.now)

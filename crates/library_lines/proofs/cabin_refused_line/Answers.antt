@@ -4,7 +4,7 @@ use borrow.Author.Tests.{lt-leb, le-leb}
 use Rattle.lines.specs.Lines.{line_room, refused_text}
 use Rattle.lent.proofs.Gives.{short-wholes}
 use Rattle.library_records.proofs.Laws.{short-bytes}
-use Rattle.library_lines.proofs.Laws.{line-bytes}
+use Rattle.library_lines.proofs.Laws.{told-by-number, line-bytes}
 use Rattle.library_lines.proofs.cabin_refused_line.Goals as goal
 
 pub returns-then-whole-lt1 : goal.returns-then-whole-lt1
@@ -14,4 +14,4 @@ pub returns : goal.returns
 returns c =
     let a = c.args in
     rw (le-leb _ _ c.if-whole-lt1.false)
-    (rw (c.refused_line.ensures.answer, le-leb _ _ c.if-whole-lt1.false) at c.give_made.ensures, c.refused_line.ensures.buffer ∙ line-bytes line_room (refused_text a.number a.at) a.line.now)
+    (rw (c.refused_line.ensures.answer, le-leb _ _ c.if-whole-lt1.false) at (told-by-number _ c.refused_line.result c.by_number.ensures c.give_made.ensures), c.refused_line.ensures.buffer ∙ line-bytes line_room (refused_text a.number a.at) a.line.now)

@@ -111,4 +111,4 @@ returns-in-Refused c =
     let m = c.in-Refused.refusal in
     let i : found_at a.place (take n e) ≡ D.Refused m = sym c.decode_at-decoded.ensures ∙ c.in-Refused.is in
     let w : eqb (number_of m) 11 ≡ false = sym (ap is_cut c.in-Refused.is) ∙ sym c.is_cut.ensures ∙ c.if-is_cut.false in
-    (is-refused g m (eqb-false (number_of m) 11 w) i, filled g)
+    (ap S.Stopped c.refuse.ensures ∙ is-refused g m (eqb-false (number_of m) 11 w) i, filled g)
