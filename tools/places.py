@@ -39,7 +39,7 @@ def functions(text):
 
 
 def enums(text):
-    for m in re.finditer(r"^(?:pub )?enum (\w+) \{\n(.*?)^\}", text, re.M | re.S):
+    for m in re.finditer(r"^(?:pub )?enum (\w+)(?:<[^>]*>)? \{\n(.*?)^\}", text, re.M | re.S):
         cases = re.findall(r"^    (\w+)(\(| \{|,)", m[2], re.M)
         yield text.count("\n", 0, m.start()) + 1, m[1], cases
 

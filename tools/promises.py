@@ -17,11 +17,11 @@ EXPORTS = ROOT / "crates" / "cabin"  # the library for C
 
 
 def contract(lines, start):
-    """The text of a function's head: from `pub fn` to the line that opens its body."""
+    """The text of a function's head: from `fn` to the line that opens its body, or that ends it in a trait."""
     head = []
     for line in lines[start:]:
         head.append(line)
-        if line.rstrip() == "{" or (len(head) == 1 and line.rstrip().endswith("{")):
+        if line.rstrip() == "{" or line.rstrip().endswith(";") or (len(head) == 1 and line.rstrip().endswith("{")):
             break
     return "\n".join(head)
 
@@ -35,9 +35,14 @@ def called_from_outside(crate):
         open_module = inner == "lib" or re.search(rf"^pub mod {re.escape(inner)};", face, re.M)
         lines = source.read_text().split("\n")
         operator = None  # of an impl of a trait of std: what its ghost member says that the method gives
+        trait = False  # in a public trait, whose methods have their contracts there
         for number, line in enumerate(lines):
             if line.startswith("}"):
-                operator = None
+                operator, trait = None, False
+            elif line.startswith("pub trait "):
+                trait = bool(open_module)
+            elif trait and (found := re.match(r"    fn (\w+)", line)):
+                yield source, number + 1, found.group(1), contract(lines, number)
             elif said := re.match(r"    ghost \w+_gives = (\{.*\});", line):
                 operator = said.group(1)
             elif operator and (found := re.match(r"    fn (\w+)", line)):

@@ -3,11 +3,12 @@
 #![tactic(auto)]
 
 ghost use Rattle.text.specs.Pieces.{Laid};
-ghost use Rattle.answers.specs.Answers.{one_pieces, closed_pieces, point_pieces, answer_pieces, tried_pieces, timed_pieces, apsides_pieces};
+ghost use Rattle.answers.specs.Answers.{one_pieces, closed_pieces, point_pieces};
+ghost use Rattle.answers.specs.Answers.{answer_pieces_by, tried_pieces_by, timed_pieces_by, apsides_pieces_by};
 
 use apsides::Apsides;
 use iterator::Tried;
-use refusal::Refusal;
+use refusal::{Numbered, Refusal};
 use theta::TransferTime;
 
 // A name and one number.
@@ -41,8 +42,8 @@ fn point(buf: &mut [u8], n: i64) -> usize
 }
 
 // The root's, c's and s's.
-pub fn tell_number(buf: &mut [u8], a: Result<f64, Refusal>) -> usize
-    ensures { Laid buf.old 0 (answer_pieces a) buf.new result }
+pub fn tell_number<R: Numbered>(buf: &mut [u8], a: Result<f64, R>) -> usize
+    ensures { Laid buf.old 0 (answer_pieces_by R.its_number a) buf.new result }
 {
     match a {
         Ok(x) => one(buf, b"value", x),
@@ -51,8 +52,8 @@ pub fn tell_number(buf: &mut [u8], a: Result<f64, Refusal>) -> usize
 }
 
 // The trial's.
-pub fn tell_trial(buf: &mut [u8], a: Tried) -> usize
-    ensures { Laid buf.old 0 (tried_pieces a) buf.new result }
+pub fn tell_trial<R: Numbered>(buf: &mut [u8], a: Tried<R>) -> usize
+    ensures { Laid buf.old 0 (tried_pieces_by R.its_number a) buf.new result }
 {
     match a {
         Tried::Point(n) => point(buf, n),
@@ -62,8 +63,8 @@ pub fn tell_trial(buf: &mut [u8], a: Tried) -> usize
 }
 
 // Time-Theta's.
-pub fn tell_time(buf: &mut [u8], a: TransferTime) -> usize
-    ensures { Laid buf.old 0 (timed_pieces a) buf.new result }
+pub fn tell_time<R: Numbered>(buf: &mut [u8], a: TransferTime<R>) -> usize
+    ensures { Laid buf.old 0 (timed_pieces_by R.its_number a) buf.new result }
 {
     match a {
         TransferTime::Time(x) => one(buf, b"time", x.time),
@@ -74,8 +75,8 @@ pub fn tell_time(buf: &mut [u8], a: TransferTime) -> usize
 }
 
 // Periapo's.
-pub fn tell_apsides(buf: &mut [u8], a: Apsides) -> usize
-    ensures { Laid buf.old 0 (apsides_pieces a) buf.new result }
+pub fn tell_apsides<R: Numbered>(buf: &mut [u8], a: Apsides<R>) -> usize
+    ensures { Laid buf.old 0 (apsides_pieces_by R.its_number a) buf.new result }
 {
     match a {
         Apsides::Closed(near, far) => closed(buf, near, far),

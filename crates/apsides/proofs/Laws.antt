@@ -19,17 +19,15 @@ use Rattle.root.proofs.Sign.{NotBelow, root-not-below}
 use Rattle.vector.specs.declared.State.{State}
 use Rattle.vector.specs.Vectors.{position_of, velocity_of}
 use Rattle.table.specs.declared.Name.TheVariants.{Position, Velocity}
-use Rattle.table.specs.declared.Entry.{Entry}
 use Rattle.table.specs.Tests as Tests
-use Rattle.table.specs.Tests.{first_failing, all_meet, first_row, table_order}
+use Rattle.table.specs.Tests.{Entry, first_failing, all_meet, first_row, table_order}
 use Rattle.rows.specs.Rows.{finite_inputs, state_rows}
 use Rattle.table.proofs.Laws.{all_met_lem, met-left, met-right, first_row_lem, row-then}
 use Rattle.rows.proofs.Inputs.{all_finite, inputs-finite}
 use Rattle.conic.specs.Conic.{straight_row}
 use Rattle.apsides.specs.declared.Shape.{Shape}
-use Rattle.apsides.specs.declared.Apsides.{Apsides}
 use Rattle.apsides.specs.declared.Apsides.TheVariants.{Closed, Open, Refused}
-use Rattle.apsides.specs.Apsides.{radicand_of, shape_of, derived_row, apsides_tests, distances_of, answered, apsides_of, apsides_number}
+use Rattle.apsides.specs.Apsides.{Apsides, radicand_of, shape_of, derived_row, apsides_tests, distances_of, answered, apsides_of, apsides_number}
 
 -- ---- 1 + e is finite and 1 or more, for an e under 2^3 that is not below zero
 

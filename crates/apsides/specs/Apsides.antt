@@ -1,6 +1,6 @@
 -- Periapo: the apsides, in the operations of f64 and in their order. Assumes nothing: these are definitions.
 use Rattle.std.specs.Prelude.{ℕ, cond, ◌&&◌, List, [], ◌∷◌, ◌++◌, Float, Result, Ok, Err}
-use Rattle.refusal.specs.declared.Refusal.TheVariants as Refusal
+use Rattle.refusal.specs.declared.Refusal.{Refusal}
 use Rattle.refusal.specs.Refusals.{number_of}
 use Rattle.real.specs.F64.{◌⊕◌, ◌⊖◌, ◌⊗◌, ◌⊘◌, ◌<ᶠ◌, two^, f0, f1}
 use Rattle.root.specs.Root.{root_of}
@@ -8,13 +8,12 @@ use Rattle.vector.specs.declared.State.{State}
 use Rattle.table.specs.declared.Name.TheVariants.{Position, Velocity, E}
 use Rattle.table.specs.declared.Part.TheVariants.{Whole}
 use Rattle.table.specs.declared.Limit.TheVariants.{Under}
-use Rattle.table.specs.declared.Entry.{Entry}
 use Rattle.vector.specs.Vectors.{position_of, velocity_of, cross_of, length_of}
-use Rattle.table.specs.Tests.{entry, first_failing}
+use Rattle.table.specs.Tests.{Entry, entry, first_failing}
 use Rattle.rows.specs.Rows.{finite_inputs, state_rows}
 use Rattle.conic.specs.Conic.{c2_of, p_of, c2_row, p_row, p_n_of, straight_row}
 use Rattle.apsides.specs.declared.Shape.{Shape}
-use Rattle.apsides.specs.declared.Apsides.{Apsides}
+use Rattle.apsides.specs.declared.Apsides.{Apsides as ApsidesOf}
 use Rattle.apsides.specs.declared.Apsides.TheVariants.{Closed, Open, Refused}
 
 -- a negative radicand is taken as 0
@@ -43,6 +42,10 @@ derived_row d = c2_row d.c2 ++ p_row d.pn ++ (entry Refusal.DerivedOutOfRange E 
 -- rows 1 to 4, 6 and 19
 abbrev pub apsides_tests : Float → State → Shape → List Entry
 apsides_tests mu s d = finite_inputs mu Position (position_of s) Velocity (velocity_of s) ++ state_rows mu s d.r1 ++ derived_row d ++ straight_row d.pn
+
+-- whose refusal is a case of `Refusal`; ApsidesOf R has a refusal of another type, as any number
+abbrev pub Apsides : Type 0
+Apsides = ApsidesOf Refusal
 
 -- near = p/(1 + e); closed, with far = p/(1 − e), if α_N > 0 and 1 − e > 0 and far < 2^29; otherwise open, with near only
 unfoldable pub distances_of : Shape → Apsides

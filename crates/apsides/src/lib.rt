@@ -9,12 +9,12 @@ use refusal::Refusal;
 use table::{Entry, Limit, Name, Part};
 use vector::State;
 
-// Closed with near and far, open with near only, or refused with its number.
+// Closed with near and far, open with near only, or refused.
 #[derive(Clone, Copy)]
-pub enum Apsides {
+pub enum Apsides<R = Refusal> {
     Closed(f64, f64),
     Open(f64),
-    Refused(Refusal),
+    Refused(R),
 }
 
 // The derived numbers.
@@ -61,11 +61,10 @@ pub fn shape_of(mu: f64, s: State) -> Shape
 
 // Row 6: |c2| < 2^6, p_N ≤ 2^4, e < 2^3.
 #[tactic(auto, using(table::proofs::Laws::told_fails, table::proofs::Laws::told_passes))]
-fn derived_row(d: Shape) -> Result<(), Entry>
-    ensures { result ≡ Ok tt ▷ derived_row d }
+fn derived_row(t: Result<(), Entry>, d: Shape) -> Result<(), Entry>
+    ensures { result ≡ t ▷ derived_row d }
 {
-    conic::c2_row(d.c2)?;
-    conic::p_row(d.pn)?;
+    conic::p_row(conic::c2_row(t, d.c2), d.pn)?;
     table::test(
         Refusal::DerivedOutOfRange,
         Name::E,
@@ -82,10 +81,9 @@ pub fn tests(mu: f64, s: State, d: Shape) -> Result<(), Entry>
 {
     let r = s.position();
     let v = s.velocity();
-    rows::finite_inputs(mu, Name::Position, r, Name::Velocity, v)?;
-    rows::state_rows(mu, s, d.r1)?;
-    derived_row(d)?;
-    conic::straight_row(d.pn)
+    let inputs = rows::finite_inputs(mu, Name::Position, r, Name::Velocity, v);
+    let states = rows::state_rows(inputs, mu, s, d.r1);
+    conic::straight_row(derived_row(states, d), d.pn)
 }
 
 fn distances(d: Shape) -> Apsides

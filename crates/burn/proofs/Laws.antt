@@ -18,9 +18,8 @@ use Rattle.vector.specs.declared.Vector.{Vector}
 use Rattle.vector.specs.declared.State.{State}
 use Rattle.vector.specs.Vectors.{position_of, velocity_of, state_of, length_of, difference_of}
 use Rattle.table.specs.declared.Name.TheVariants.{Position, Velocity}
-use Rattle.table.specs.declared.Entry.{Entry}
 use Rattle.table.specs.Tests as Tests
-use Rattle.table.specs.Tests.{first_failing, first_row, table_order, applies, passes}
+use Rattle.table.specs.Tests.{Entry, first_failing, first_row, first_row_by, table_order, applies, passes}
 use Rattle.table.proofs.Laws.{all_met_lem, met-left, met-right, first_row_lem}
 use Rattle.rows.specs.Rows.{finite_inputs, mu_row, position_row, velocity_components, state_rows}
 use Rattle.rows.proofs.Components.{Finite, velocity-finite}
@@ -29,22 +28,20 @@ use Rattle.kepler.specs.Kepler.{turned_of, kepler_tests, arrival_of}
 use Rattle.problem.specs.Problems.{last_of}
 use Rattle.problem.specs.declared.Problem.TheVariants.{Kepler}
 use Rattle.kepler.proofs.Laws.{FiniteState, kepler-table}
-use Rattle.solve.specs.declared.Advanced.{Advanced}
 use Rattle.solve.specs.declared.Advanced.TheVariants as Ad
 use Rattle.solve.specs.declared.Solution.{Solution}
 use Rattle.solve.specs.Ends.{motion_for, turns_for}
-use Rattle.solve.specs.Answers.{advance_of, advanced_number}
+use Rattle.solve.specs.Answers.{Advanced, advance_of, advanced_number}
 use Rattle.solve.proofs.Finite.{advance-finite}
 use Rattle.solve.proofs.Numbers.{timed, after_trials, arrives, advance-number}
 use Rattle.reach.specs.declared.Reached.{Reached}
 use Rattle.reach.specs.declared.Reached.TheVariants as R
 use Rattle.reach.specs.Reach.{reach_of}
-use Rattle.theta.specs.declared.TransferTime.{TransferTime}
+use Rattle.theta.specs.Theta.{TransferTime}
 use Rattle.theta.specs.declared.TransferTime.TheVariants as Th
 use Rattle.theta.specs.Theta as Theta
-use Rattle.apsides.specs.declared.Apsides.{Apsides}
 use Rattle.apsides.specs.declared.Apsides.TheVariants as Ap
-use Rattle.apsides.specs.Apsides.{shape_of, derived_row, apsides_tests, distances_of, answered, apsides_of}
+use Rattle.apsides.specs.Apsides.{Apsides, shape_of, derived_row, apsides_tests, distances_of, answered, apsides_of}
 use Rattle.apsides.specs.Apsides as ApsidesOf
 use Rattle.apsides.proofs.Laws as Apsides
 use Rattle.elapsed.specs.Elapsed.{at_least, elapsed_of}
@@ -112,7 +109,7 @@ pick true n m p q e = p e
 pick false n m p q e = q e
 
 row_other : (es : List Entry) → first_row table_order es ≡ 28 → ⊥
-unfolding first_row
+unfolding first_row_by
 row_other es =
     pick (applies 1 es) 1 _ (ne 1 refl)
     (pick (applies 2 es) 2 _ (ne 2 refl)

@@ -9,15 +9,12 @@ use Rattle.vector.specs.declared.State.{State}
 use Rattle.vector.specs.Vectors.{position_of, velocity_of, state_of, length_of, difference_of}
 use Rattle.table.specs.Tests.{all_meet}
 use Rattle.rows.specs.Rows.{radius_row}
-use Rattle.solve.specs.declared.Advanced.{Advanced}
 use Rattle.solve.specs.declared.Advanced.TheVariants as Ad
-use Rattle.solve.specs.Answers.{advance_of}
-use Rattle.theta.specs.declared.TransferTime.{TransferTime}
+use Rattle.solve.specs.Answers.{Advanced, advance_of}
 use Rattle.theta.specs.declared.TransferTime.TheVariants as Th
-use Rattle.theta.specs.Theta.{theta_of}
-use Rattle.apsides.specs.declared.Apsides.{Apsides}
+use Rattle.theta.specs.Theta.{TransferTime, theta_of}
 use Rattle.apsides.specs.declared.Apsides.TheVariants as Ap
-use Rattle.apsides.specs.Apsides.{apsides_of}
+use Rattle.apsides.specs.Apsides.{Apsides, apsides_of}
 use Rattle.elapsed.specs.Elapsed.{at_least, elapsed_of}
 use Rattle.coelliptic.specs.declared.Angle.{Angle}
 use Rattle.coelliptic.specs.declared.Passive.{Passive}

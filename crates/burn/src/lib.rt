@@ -145,7 +145,7 @@ fn from_both(k: Centre, active: State, passive: State) -> Result<Burn, Refusal>
 fn radius_allowed(radius: f64) -> bool
     ensures { result ≡ radius_allowed radius }
 {
-    matches!(rows::radius_row(radius), Ok(()))
+    matches!(rows::radius_row::<Refusal>(Ok(()), radius), Ok(()))
 }
 
 // The burn at t2 of the active vehicle, whose state is of the time ta, under the passive one, whose state is of tp; t3 is

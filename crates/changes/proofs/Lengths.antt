@@ -1,5 +1,5 @@
 -- Every line fits 512 bytes. Assumes nothing.
-use Prim.Native.Nat.{◌≤◌}
+use Prim.Native.Nat.{ℕ, ◌≤◌}
 use Rattle.std.specs.Prelude.{Result, Ok, Err}
 use Rattle.refusal.specs.declared.Refusal.{Refusal}
 use Rattle.refusal.specs.Refusals.{number_of}
@@ -13,7 +13,7 @@ use Rattle.columns.proofs.RowLaws.{end_short, labelled-short, refused-fits}
 use Rattle.vector.specs.declared.Vector.{Vector}
 use Rattle.burn.specs.declared.Burn.{Burn}
 use Rattle.burn.specs.declared.Burn.TheVariants.{Closed, Open}
-use Rattle.changes.specs.Changes.{closed_pieces, open_pieces, change_pieces, burn_pieces}
+use Rattle.changes.specs.Changes.{closed_pieces, open_pieces, change_pieces, burn_pieces_by, burn_pieces}
 
 closed-short : (d : Vector) (near far : Float) → size (closed_pieces d near far) ≤ 512
 unfolding closed_pieces
@@ -42,6 +42,9 @@ change-fits : (b : Burn) → size (change_pieces b) ≤ 512
 change-fits (Closed d near far) = closed-short d near far
 change-fits (Open d near) = open-short d near
 
+pub burn-by-fits : {R : Type 0} (number : R → ℕ) (a : Result Burn R) → size (burn_pieces_by number a) ≤ 512
+burn-by-fits number (Ok b) = change-fits b
+burn-by-fits number (Err r) = refused-fits (number r)
+
 pub burn-fits : (a : Result Burn Refusal) → size (burn_pieces a) ≤ 512
-burn-fits (Ok b) = change-fits b
-burn-fits (Err r) = refused-fits (number_of r)
+burn-fits a = burn-by-fits number_of a

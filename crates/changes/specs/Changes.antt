@@ -25,6 +25,10 @@ abbrev pub change_pieces : Burn → List (List ℕ)
 change_pieces (Closed d near far) = closed_pieces d near far
 change_pieces (Open d near) = open_pieces d near
 
+-- an answer, whatever its refusal is, by the number of that
+abbrev pub burn_pieces_by : {R : Type 0} → (R → ℕ) → Result Burn R → List (List ℕ)
+burn_pieces_by number (Ok b) = change_pieces b
+burn_pieces_by number (Err r) = refused_pieces (number r)
+
 abbrev pub burn_pieces : Result Burn Refusal → List (List ℕ)
-burn_pieces (Ok b) = change_pieces b
-burn_pieces (Err r) = refused_pieces (number_of r)
+burn_pieces a = burn_pieces_by number_of a

@@ -3,10 +3,10 @@
 #![tactic(auto)]
 
 ghost use Rattle.text.specs.Pieces.{Laid};
-ghost use Rattle.changes.specs.Changes.{closed_pieces, open_pieces, change_pieces, burn_pieces};
+ghost use Rattle.changes.specs.Changes.{closed_pieces, open_pieces, change_pieces, burn_pieces_by};
 
 use burn::Burn;
-use refusal::Refusal;
+use refusal::Numbered;
 use vector::Vector;
 
 fn closed(buf: &mut [u8], d: Vector, near: f64, far: f64) -> usize
@@ -43,8 +43,8 @@ fn change(buf: &mut [u8], b: Burn) -> usize
 }
 
 // The burn's.
-pub fn tell_burn(buf: &mut [u8], a: Result<Burn, Refusal>) -> usize
-    ensures { Laid buf.old 0 (burn_pieces a) buf.new result }
+pub fn tell_burn<R: Numbered>(buf: &mut [u8], a: Result<Burn, R>) -> usize
+    ensures { Laid buf.old 0 (burn_pieces_by R.its_number a) buf.new result }
 {
     match a {
         Ok(b) => change(buf, b),

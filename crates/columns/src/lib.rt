@@ -5,10 +5,9 @@
 
 ghost use Rattle.text.specs.Text.{Put};
 ghost use Rattle.text.specs.Pieces.{Laid};
-ghost use Rattle.refusal.specs.Refusals.{number_of};
 ghost use Rattle.columns.specs.Rows.{figure_text, row_pieces, labelled_pieces, end_pieces, counted_pieces, refused_pieces, unread_pieces};
 
-use refusal::Refusal;
+use refusal::Numbered;
 
 // A number to six places, or its bits.
 #[derive(Clone, Copy)]
@@ -65,10 +64,10 @@ fn counted(buf: &mut [u8], word: &[u8], n: u64) -> usize
 }
 
 // The line of a refusal.
-pub fn refused(buf: &mut [u8], refusal: Refusal) -> usize
-    ensures { Laid buf.old 0 (refused_pieces (number_of refusal)) buf.new result }
+pub fn refused<R: Numbered>(buf: &mut [u8], refusal: R) -> usize
+    ensures { Laid buf.old 0 (refused_pieces (R.its_number refusal)) buf.new result }
 {
-    counted(buf, b"refused ", u64::from(refusal.number()))
+    counted(buf, b"refused ", u64::from(refusal.to_number()))
 }
 
 // The line of a word that cannot be read.

@@ -2,8 +2,7 @@
 use Rattle.series.specs.declared.Pair.{Pair}
 use Rattle.conic.specs.declared.Point.{Point}
 use Rattle.refusal.specs.declared.Refusal.{Refusal}
-use Rattle.std.specs.Prelude.{ℕ, cond, List, [], ◌∷◌, ℤ, Float, Err, Ok, Result}
-use Rattle.refusal.specs.declared.Refusal.TheVariants as Refusal
+use Rattle.std.specs.Prelude.{cond, List, [], ◌∷◌, ℤ, Float, Err, Ok, Result}
 use Rattle.std.specs.Float.{binary64}
 use Rattle.std.specs.Float.Ieee.{of_int}
 use Rattle.real.specs.F64.{◌⊕◌, ◌⊖◌, ◌⊗◌, ◌⊘◌, ◌≤ᶠ◌, two^, two^-, f1}
@@ -14,9 +13,9 @@ use Rattle.table.specs.declared.Name.TheVariants.{C2, P, Xi}
 use Rattle.table.specs.declared.Part.TheVariants.{Whole}
 use Rattle.table.specs.declared.Limit.{Limit}
 use Rattle.table.specs.declared.Limit.TheVariants.{AtLeast, AtMost, SizeUnder}
-use Rattle.table.specs.declared.Entry.{Entry}
 use Rattle.vector.specs.Vectors.{dot_of}
-use Rattle.table.specs.Tests.{entry}
+use Rattle.table.specs.declared.Entry.{Entry as EntryOf}
+use Rattle.table.specs.Tests.{Entry, entry}
 use Rattle.conic.specs.declared.Orbit.{Orbit}
 
 -- n·2^-20
@@ -51,7 +50,7 @@ abbrev pub time_of : Orbit → Float → Float → Float → Float → Float
 time_of o x z c s = (o.c1 ⊗ (z ⊗ c) ⊕ x ⊗ (o.c2 ⊗ (z ⊗ s) ⊕ o.r1)) ⊘ o.rootmu
 
 -- a range test that stops a trial: 7 where it is over, 8 where it is under
-abbrev pub range_test : Refusal → Name → Float → Limit → Entry
+abbrev pub range_test : {R : Type 0} → R → Name → Float → Limit → EntryOf R
 range_test refusal name amount limit = entry refusal name Whole amount limit
 
 -- −50 ≤ ξ ≤ 40: the first of the two that a ξ outside fails

@@ -2,10 +2,10 @@
 #![tactic(auto)]
 
 ghost use Rattle.std.specs.Prelude.{◌≡◌};
-ghost use Rattle.table.specs.Tests.{◌▷◌};
+ghost use Rattle.table.specs.Tests.{◌▷◌, entries_by};
 ghost use Rattle.conic.specs.Conic.{grid_of, c2_of, p_of, p_n_of, c2_row, p_row, straight_row, time_of, range_test, outside_of, point_at};
 
-use refusal::Refusal;
+use refusal::{Numbered, Refusal};
 use table::{Entry, Limit, Name, Part};
 use vector::Vector;
 
@@ -58,41 +58,50 @@ pub fn pn(h: Vector, mu: f64, r1: f64) -> f64
 }
 
 // Row 6 for c2: |c2| < 2^6.
-pub fn c2_row(c2: f64) -> Result<(), Entry>
-    ensures { result ≡ Ok tt ▷ c2_row c2 }
+#[tactic(auto, using(table::proofs::Laws::told_fails, table::proofs::Laws::told_passes))]
+pub fn c2_row<R: Numbered>(t: Result<(), Entry<R>>, c2: f64) -> Result<(), Entry<R>>
+    ensures { result ≡ t ▷ entries_by R.given_as (c2_row c2) }
 {
+    let limit = Limit::SizeUnder(64.0);
+    t?;
     table::test(
-        Refusal::DerivedOutOfRange,
+        R::of(Refusal::DerivedOutOfRange),
         Name::C2,
         Part::Whole,
         c2,
-        Limit::SizeUnder(64.0),
+        limit,
     )
 }
 
 // Row 6 for p_N = p/r: p_N ≤ 2^4.
-pub fn p_row(pn: f64) -> Result<(), Entry>
-    ensures { result ≡ Ok tt ▷ p_row pn }
+#[tactic(auto, using(table::proofs::Laws::told_fails, table::proofs::Laws::told_passes))]
+pub fn p_row<R: Numbered>(t: Result<(), Entry<R>>, pn: f64) -> Result<(), Entry<R>>
+    ensures { result ≡ t ▷ entries_by R.given_as (p_row pn) }
 {
+    let limit = Limit::AtMost(16.0);
+    t?;
     table::test(
-        Refusal::DerivedOutOfRange,
+        R::of(Refusal::DerivedOutOfRange),
         Name::P,
         Part::Whole,
         pn,
-        Limit::AtMost(16.0),
+        limit,
     )
 }
 
 // Row 19: 2^-20 ≤ p_N. Under it a state has almost no sideways speed, and falls straight.
-pub fn straight_row(pn: f64) -> Result<(), Entry>
-    ensures { result ≡ Ok tt ▷ straight_row pn }
+#[tactic(auto, using(table::proofs::Laws::told_fails, table::proofs::Laws::told_passes))]
+pub fn straight_row<R: Numbered>(t: Result<(), Entry<R>>, pn: f64) -> Result<(), Entry<R>>
+    ensures { result ≡ t ▷ entries_by R.given_as (straight_row pn) }
 {
+    let limit = Limit::AtLeast(9.5367431640625e-7);
+    t?;
     table::test(
-        Refusal::StraightFall,
+        R::of(Refusal::StraightFall),
         Name::P,
         Part::Whole,
         pn,
-        Limit::AtLeast(9.5367431640625e-7),
+        limit,
     )
 }
 
@@ -104,7 +113,7 @@ fn time(o: Orbit, x: f64, z: f64, c: f64, s: f64) -> f64
 }
 
 // A range test that stops a trial: 7 where it is over, 8 where it is under.
-pub fn range_test(refusal: Refusal, name: Name, amount: f64, limit: Limit) -> Entry
+pub fn range_test<R: Numbered>(refusal: R, name: Name, amount: f64, limit: Limit) -> Entry<R>
     ensures { result ≡ range_test refusal name amount limit }
 {
     Entry {

@@ -14,7 +14,7 @@ pub fn cdh(line: &[u8]) -> Result<Request, u64>
     ensures { result ≡ read_by cdh_form 1 line.now }
 {
     let body = numerals::whole_at(line, 1).ok_or(2u64)?;
-    let [radius, mu, rx, ry, rz, vx, vy, vz] = forms::numbers::<8>(line, 2)?;
+    let [radius, mu, rx, ry, rz, vx, vy, vz] = forms::numbers_as_array::<8>(line, 2)?;
     let active = State {
         rx,
         ry,
@@ -24,7 +24,7 @@ pub fn cdh(line: &[u8]) -> Result<Request, u64>
         vz,
     };
     let ta = numerals::signed_at(line, 10).ok_or(11u64)?;
-    let [rx, ry, rz, vx, vy, vz] = forms::numbers::<6>(line, 11)?;
+    let [rx, ry, rz, vx, vy, vz] = forms::numbers_as_array::<6>(line, 11)?;
     let passive = State {
         rx,
         ry,

@@ -9,16 +9,14 @@ use lib.Ieee.{Float, binary64, of_int}
 use Rattle.facts.proofs.Wholes.{zero_one}
 use Rattle.vector.specs.declared.Vector.{Vector}
 use Rattle.vector.specs.Vectors.{velocity_of, sum_of}
-use Rattle.table.specs.declared.Entry.{Entry}
 use Rattle.table.specs.declared.Name.TheVariants.{Velocity}
-use Rattle.table.specs.Tests.{first_failing, all_meet}
+use Rattle.table.specs.Tests.{Entry, first_failing, all_meet}
 use Rattle.table.proofs.Laws.{all_met_lem}
 use Rattle.rows.specs.Rows.{velocity_components}
 use Rattle.rows.proofs.Components.{velocity-finite}
 use Rattle.kepler.proofs.Laws.{FiniteState}
-use Rattle.solve.specs.declared.Advanced.{Advanced}
 use Rattle.solve.specs.declared.Advanced.TheVariants as Ad
-use Rattle.solve.specs.Answers.{advance_of}
+use Rattle.solve.specs.Answers.{Advanced, advance_of}
 use Rattle.solve.proofs.Finite.{advance-finite}
 use Rattle.flight.specs.declared.Mu.{Mu}
 use Rattle.flight.specs.declared.Flight.{Flight}

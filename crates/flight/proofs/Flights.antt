@@ -12,8 +12,7 @@ use Rattle.elapsed.specs.Elapsed.{elapsed_of}
 use Rattle.vector.specs.declared.Vector.{Vector}
 use Rattle.vector.specs.Vectors.{velocity_of, sum_of}
 use Rattle.table.specs.declared.Name.TheVariants.{Velocity}
-use Rattle.table.specs.declared.Entry.{Entry}
-use Rattle.table.specs.Tests.{first_failing}
+use Rattle.table.specs.Tests.{Entry, first_failing}
 use Rattle.rows.specs.Rows.{velocity_components}
 use Rattle.solve.specs.Answers.{advance_of}
 use Rattle.flight.specs.declared.Mu.{Mu}

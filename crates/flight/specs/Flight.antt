@@ -6,13 +6,11 @@ use Rattle.std.specs.Float.Ieee.{of_int}
 use Rattle.real.specs.F64.{◌⊖◌}
 use Rattle.vector.specs.declared.Vector.{Vector}
 use Rattle.vector.specs.Vectors.{position_of, velocity_of, state_of, length_of, sum_of, difference_of}
-use Rattle.table.specs.declared.Entry.{Entry}
 use Rattle.table.specs.declared.Name.TheVariants.{Velocity}
-use Rattle.table.specs.Tests.{first_failing}
+use Rattle.table.specs.Tests.{Entry, first_failing}
 use Rattle.rows.specs.Rows.{velocity_components}
-use Rattle.solve.specs.declared.Advanced.{Advanced}
 use Rattle.solve.specs.declared.Advanced.TheVariants as Ad
-use Rattle.solve.specs.Answers.{advance_of}
+use Rattle.solve.specs.Answers.{Advanced, advance_of}
 use Rattle.flight.specs.declared.Mu.{Mu}
 use Rattle.flight.specs.declared.Flight.{Flight}
 

@@ -61,7 +61,8 @@ pub fn burn(f: Flight, change: Vector) -> Result<Flight, Refusal>
     ensures { result ≡ burned_of f change }
 {
     let v = f.state.velocity() + change;
-    match rows::velocity_components(Refusal::VelocityOutOfRange, Name::Velocity, v) {
+    let refusal = Refusal::VelocityOutOfRange;
+    match rows::velocity_components(Ok(()), refusal, Name::Velocity, v) {
         Ok(()) => {
             let state = State::new(f.state.position(), v);
             Ok(Flight { state, ..f })

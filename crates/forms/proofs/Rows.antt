@@ -14,7 +14,7 @@ use lib.Ieee.{Float}
 use Rattle.words.specs.Words.{word_at, is_end}
 use Rattle.numerals.specs.Numbers.{word_number}
 use Rattle.forms.specs.Forms.{Form, end, numbers, by_number, read_by}
-use Rattle.forms.specs.Parts.{ReadsNumbers, ReadsOnly}
+use Rattle.forms.specs.Parts.{Numbers, OnlyNumbers}
 use Rattle.forms.proofs.Steps.{by_end}
 
 -- by what `ok_or` makes of a word
@@ -55,11 +55,11 @@ module _ {line : List ℕ} {k : ℕ} {xs : List Float} {i : ℕ} (g : Got line k
         reads = λ go. rw length-set (g.reads go ∙ peel line (λ (ys : List Float). go (take i xs ++ ys)) g.left (g.left - 1) (k + i) (some h) e q ∙ simp (t, append_assoc, add_assoc k i 1));
       }
 
-  pub got-bad : {n : Option Float} → i < length xs → n ≡ word_number (word_at (k + i) line) → n ≡ None → ReadsNumbers (length xs) (Err (k + i + 1)) k line
+  pub got-bad : {n : Option Float} → i < length xs → n ≡ word_number (word_at (k + i) line) → n ≡ None → Numbers xs k (Err (k + i + 1)) line
   got-bad h e q go =
       g.reads go ∙ peel line (λ (ys : List Float). go (take i xs ++ ys)) g.left (g.left - 1) (k + i) (some h) e q
 
-  pub got-all : length xs ≤ i → ReadsNumbers (length xs) (Ok xs) k line
+  pub got-all : length xs ≤ i → Numbers xs k (Ok tt) line
   unfolding numbers
   got-all h go =
       let z : g.left ≡ 0 = omega (arith, g.sum) in
@@ -68,12 +68,12 @@ module _ {line : List ℕ} {k : ℕ} {xs : List Float} {i : ℕ} (g : Got line k
 
 -- ---- and no word more
 
-module _ (n : ℕ) (k : ℕ) (line : List ℕ) where
-  pub only-all : (xs : List Float) {r : Bool} → ReadsNumbers n (Ok xs) k line → r ≡ is_end (k + n) line → r ≡ true → ReadsOnly n (Ok xs) k line
-  only-all xs p e b ask = p (λ (ys : List Float). end (ask ys)) ∙ by_end (ask xs) (k + n) line e b
+module _ (k : ℕ) (line : List ℕ) (xs : List Float) where
+  pub only-all : {r : Bool} → Numbers xs k (Ok tt) line → r ≡ is_end (k + length xs) line → r ≡ true → OnlyNumbers xs k (Ok tt) line
+  only-all p e b ask = p (λ (ys : List Float). end (ask ys)) ∙ by_end (ask xs) (k + length xs) line e b
 
-  pub only-more : (xs : List Float) {r : Bool} → ReadsNumbers n (Ok xs) k line → r ≡ is_end (k + n) line → r ≡ false → ReadsOnly n (Err (k + n + 1)) k line
-  only-more xs p e b ask = p (λ (ys : List Float). end (ask ys)) ∙ by_end (ask xs) (k + n) line e b
+  pub only-more : {r : Bool} → Numbers xs k (Ok tt) line → r ≡ is_end (k + length xs) line → r ≡ false → OnlyNumbers xs k (Err (k + length xs + 1)) line
+  only-more p e b ask = p (λ (ys : List Float). end (ask ys)) ∙ by_end (ask xs) (k + length xs) line e b
 
-  pub only-bad : (w : ℕ) → ReadsNumbers n (Err w) k line → ReadsOnly n (Err w) k line
+  pub only-bad : (w : ℕ) → Numbers xs k (Err w) line → OnlyNumbers xs k (Err w) line
   only-bad w p ask = p (λ (ys : List Float). end (ask ys))

@@ -1,8 +1,22 @@
 -- What a part that was read says of the form that begins with it, whatever follows. Assumes nothing: these are definitions.
-use Rattle.std.specs.Prelude.{ℕ, ◌+◌, ◌≡◌, List, ℤ, Float, Err, Ok, Result}
+use Rattle.std.specs.Prelude.{ℕ, ◌+◌, ◌≡◌, List, length, ℤ, Float, Err, Ok, Result}
 use Rattle.iterator.specs.declared.Judgement.{Judgement}
 use Rattle.forms.specs.declared.Request.{Request}
 use Rattle.forms.specs.Forms.{Form, end, signed, judgement, numbers, read_by}
+
+-- numbers: each was read, or w is the number of the first word that is none
+abbrev pub where_read : Result Unit ℕ → Result Request ℕ → Result Request ℕ
+where_read (Ok tt) all = all
+where_read (Err w) all = Err w
+
+abbrev pub Numbers : List Float → ℕ → Result Unit ℕ → List ℕ → Type 0
+Numbers xs k r line =
+    (go : List Float → Form) → read_by (numbers (length xs) go) k line ≡ where_read r (read_by (go xs) (k + length xs) line)
+
+-- and no word more
+abbrev pub OnlyNumbers : List Float → ℕ → Result Unit ℕ → List ℕ → Type 0
+OnlyNumbers xs k r line =
+    (go : List Float → Request) → read_by (numbers (length xs) λ ys. end (go ys)) k line ≡ where_read r (Ok (go xs))
 
 -- n numbers
 abbrev pub behind_numbers : Result (List Float) ℕ → (List Float → Form) → ℕ → List ℕ → Result Request ℕ

@@ -6,7 +6,10 @@ mod parts;
 
 use iterator::{Beginning, Judgement};
 use lambert::Way;
-pub use parts::{ends_at, judgement_at, number_at, numbers, only, only_numbers, sides_at};
+pub use parts::{
+    ends_at, judgement_at, number_at, numbers, numbers_as_array, only, only_numbers,
+    only_numbers_as_array, sides_at,
+};
 use vector::{State, Vector};
 
 // Whose fractions the grade goes by: 01's, or those of a version of the settings.

@@ -5,7 +5,7 @@ ghost use Rattle.words.specs.Words.{word_at};
 ghost use Rattle.numerals.specs.Numbers.{word_number};
 ghost use Rattle.forms.specs.Judgements.{word_judgement};
 ghost use Rattle.forms.specs.Forms.{end, read_by};
-ghost use Rattle.forms.specs.Parts.{ReadsNumbers, ReadsOnly, ReadsEnds, ReadsSides};
+ghost use Rattle.forms.specs.Parts.{Numbers, OnlyNumbers, ReadsNumbers, ReadsOnly, ReadsEnds, ReadsSides};
 
 use crate::Request;
 use crate::judgement::read_judgement;
@@ -17,28 +17,45 @@ pub fn number_at(line: &[u8], k: u64) -> Option<f64>
     numerals::read_number(words::word(line, k))
 }
 
-// N numbers.
-pub fn numbers<const N: usize>(line: &[u8], k: u32) -> Result<[f64; N], u64>
-    ensures { ReadsNumbers N result k line.now }
+// Numbers, as many as there is room for.
+pub fn numbers(line: &[u8], k: u32, xs: &mut [f64]) -> Result<(), u64>
+    ensures { Numbers xs.new k result line.now }
 {
-    let mut xs = [0.0; N];
     for (i, x) in xs.iter_mut().enumerate() {
         let at = u64::from(k) + i as u64;
         *x = number_at(line, at).ok_or(at + 1)?;
     }
+    Ok(())
+}
+
+// The same, and no word more.
+pub fn only_numbers(line: &[u8], k: u32, xs: &mut [f64]) -> Result<(), u64>
+    ensures { OnlyNumbers xs.new k result line.now }
+{
+    numbers(line, k, xs)?;
+    let at = u64::from(k) + xs.len() as u64;
+    if words::is_end(line, at) {
+        return Ok(());
+    }
+    Err(at + 1)
+}
+
+// N numbers.
+pub fn numbers_as_array<const N: usize>(line: &[u8], k: u32) -> Result<[f64; N], u64>
+    ensures { ReadsNumbers N result k line.now }
+{
+    let mut xs = [0.0; N];
+    numbers(line, k, &mut xs)?;
     Ok(xs)
 }
 
 // The same, and no word more.
-pub fn only_numbers<const N: usize>(line: &[u8], k: u32) -> Result<[f64; N], u64>
+pub fn only_numbers_as_array<const N: usize>(line: &[u8], k: u32) -> Result<[f64; N], u64>
     ensures { ReadsOnly N result k line.now }
 {
-    let xs = numbers(line, k)?;
-    let at = u64::from(k) + N as u64;
-    if words::is_end(line, at) {
-        return Ok(xs);
-    }
-    Err(at + 1)
+    let mut xs = [0.0; N];
+    only_numbers(line, k, &mut xs)?;
+    Ok(xs)
 }
 
 // What is asked, where the line has no word more behind the first k.

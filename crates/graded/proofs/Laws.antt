@@ -10,13 +10,11 @@ use Rattle.vector.specs.declared.Vector.{Vector}
 use Rattle.vector.specs.declared.State.{State}
 use Rattle.iterator.specs.declared.Beginning.{Beginning}
 use Rattle.lambert.specs.declared.Way.{Way}
-use Rattle.solve.specs.Answers.{standard_fractions, advance_to, transfer_velocity_to}
+use Rattle.solve.specs.Answers.{Advanced, Transferred, standard_fractions, advance_to, transfer_velocity_to}
 use Rattle.solve.specs.declared.Fractions.{Fractions}
 use Rattle.solve.specs.declared.Grade.{Grade}
 use Rattle.solve.specs.declared.Solution.{Solution}
-use Rattle.solve.specs.declared.Advanced.{Advanced}
 use Rattle.solve.specs.declared.Advanced.TheVariants as Ad
-use Rattle.solve.specs.declared.Transferred.{Transferred}
 use Rattle.solve.specs.declared.Transferred.TheVariants as Tr
 use Rattle.solve.proofs.Grades.{Own, OwnAdvanced, OwnTransferred, advance-own, transfer-own}
 use Rattle.settings.specs.declared.allowed.Setting.{Setting}

@@ -9,11 +9,9 @@ use Rattle.iterator.specs.declared.Beginning.{Beginning}
 use Rattle.lambert.specs.declared.Way.{Way}
 use Rattle.solve.specs.declared.Fractions.{Fractions}
 use Rattle.solve.specs.declared.Solution.{Solution}
-use Rattle.solve.specs.declared.Advanced.{Advanced}
 use Rattle.solve.specs.declared.Advanced.TheVariants as Ad
-use Rattle.solve.specs.declared.Transferred.{Transferred}
 use Rattle.solve.specs.declared.Transferred.TheVariants as Tr
-use Rattle.solve.specs.Answers.{grade_of, advance_to, transfer_velocity_to}
+use Rattle.solve.specs.Answers.{Advanced, Transferred, grade_of, advance_to, transfer_velocity_to}
 use Rattle.settings.specs.declared.allowed.Setting.{Setting}
 use Rattle.settings.specs.History.{look_up}
 

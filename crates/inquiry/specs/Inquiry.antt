@@ -7,7 +7,7 @@ use Rattle.forms.specs.declared.Solve.TheVariants.{Kepler, Lambert, Theta, Apsid
 use Rattle.forms.specs.declared.Version.{Version}
 use Rattle.forms.specs.declared.Version.TheVariants.{Standard, Named}
 use Rattle.settings.specs.History.{look_up}
-use Rattle.reason.specs.declared.Reason.{Reason}
+use Rattle.reason.specs.Reasons.{Reason}
 use Rattle.reason.specs.declared.Reason.TheVariants.{Settings}
 use Rattle.why.specs.Why.{why_advance, why_transfer}
 use Rattle.why_direct.specs.Why.{why_time, why_apsides}

@@ -37,12 +37,12 @@ pub enum Beginning {
     Stopped(Bracket),
 }
 
-// What a single trial answers: its point, that none is left, or a refusal's number.
+// What a single trial answers: its point, that none is left, or a refusal.
 #[derive(Clone, Copy)]
-pub enum Tried {
+pub enum Tried<R = Refusal> {
     Point(i64),
     NoneLeft,
-    Refused(Refusal),
+    Refused(R),
 }
 
 // Times lie within -2^28..2^28, and ends within -2^37..2^37.

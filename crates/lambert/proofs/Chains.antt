@@ -1,11 +1,10 @@
 -- The code's chain of tests is the list's, whichever way round is asked. Assumes nothing.
-use Rattle.table.specs.declared.Entry.{Entry}
 use Rattle.std.specs.Prelude.{Result, Ok}
 use mathlib.Core.Path.{◌≡◌, refl}
 use lib.Ieee.{Float}
 use Rattle.vector.specs.declared.Vector.{Vector}
 use Rattle.table.specs.declared.Name.TheVariants.{First, Second, Time}
-use Rattle.table.specs.Tests.{◌▷◌}
+use Rattle.table.specs.Tests.{Entry, ◌▷◌}
 use Rattle.rows.specs.Rows.{finite_number, finite_inputs, mu_row, transfer_time_row}
 use Rattle.lambert.specs.declared.Way.{Way}
 use Rattle.lambert.specs.declared.Way.TheVariants.{Short, Long, Normal}

@@ -11,8 +11,7 @@ use Rattle.real.specs.F64.{finite}
 use Rattle.vector.specs.declared.Vector.{Vector}
 use Rattle.vector.specs.Vectors.{dot_of, length_of, divided_of}
 use Rattle.table.specs.declared.Name.TheVariants.{First, Second, Velocity, Time}
-use Rattle.table.specs.declared.Entry.{Entry}
-use Rattle.table.specs.Tests.{first_failing, all_meet, test_number, first_row, table_order, ordered}
+use Rattle.table.specs.Tests.{Entry, first_failing, all_meet, test_number, first_row, table_order, ordered}
 use Rattle.rows.specs.Rows.{finite_number, finite_inputs}
 use Rattle.table.proofs.Laws.{is_row, all_met_lem, meet-both, first_row_lem, row-then}
 use Rattle.rows.proofs.Components.{Finite, velocity-finite}

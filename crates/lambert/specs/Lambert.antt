@@ -12,9 +12,8 @@ use Rattle.table.specs.declared.Part.TheVariants.{Length, Whole}
 use Rattle.table.specs.declared.Limit.{Limit}
 use Rattle.table.specs.declared.Limit.TheVariants as L
 use Rattle.table.specs.declared.Limit.TheVariants.{AtLeast, OneWithin}
-use Rattle.table.specs.declared.Entry.{Entry}
 use Rattle.vector.specs.Vectors.{dot_of, cross_of, length_of, scaled_of, sum_of, divided_of, negated_of}
-use Rattle.table.specs.Tests.{entry}
+use Rattle.table.specs.Tests.{Entry, entry}
 use Rattle.rows.specs.Rows.{finite_number, finite_vector, finite_inputs, mu_row, position_row, velocity_components, transfer_time_row}
 use Rattle.conic.specs.Conic.{grid_of, range_test}
 use Rattle.iterator.specs.declared.Judgement.{Judgement}

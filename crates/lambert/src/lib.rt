@@ -3,12 +3,12 @@
 #![tactic(auto)]
 
 ghost use Rattle.std.specs.Prelude.{◌≡◌};
-ghost use Rattle.table.specs.Tests.{◌▷◌, first_failing};
+ghost use Rattle.table.specs.Tests.{◌▷◌, entries_by, first_failing};
 ghost use Rattle.lambert.specs.Lambert.{turn_of, shared_of, transfer_of, position_rows, normal_input, input_row, normal_row, angle_row, derived_row, range_rows, den_of, p_of, arc_of, side_of, reach_at, lambert_judge, lambert_stop, velocity_at, result_row};
 
 use iterator::Judgement;
 use reach::{Arc, Reached};
-use refusal::Refusal;
+use refusal::{Numbered, Refusal};
 use table::{Entry, Limit, Name, Part};
 use vector::Vector;
 
@@ -103,22 +103,27 @@ pub fn transfer_of(mu: f64, first: Vector, second: Vector, way: Way) -> Transfer
 
 // Row 3, of both positions.
 #[tactic(auto, using(table::proofs::Laws::told_fails, table::proofs::Laws::told_passes))]
-fn position_rows(first: Vector, second: Vector, d: Transfer) -> Result<(), Entry>
-    ensures { result ≡ Ok tt ▷ position_rows first second d }
+fn position_rows<R: Numbered>(
+    t: Result<(), Entry<R>>,
+    first: Vector,
+    second: Vector,
+    d: Transfer,
+) -> Result<(), Entry<R>>
+    ensures { result ≡ t ▷ entries_by R.given_as (position_rows first second d) }
 {
-    rows::position_row(Name::First, first, d.r1)?;
-    rows::position_row(Name::Second, second, d.r2)
+    let a = rows::position_row(t, Name::First, first, d.r1);
+    rows::position_row(a, Name::Second, second, d.r2)
 }
 
 // Row 1, of a normal that is given.
 #[tactic(auto, using(table::proofs::Laws::told_fails, table::proofs::Laws::told_passes))]
-fn normal_input(way: Way) -> Result<(), Entry>
-    ensures { result ≡ Ok tt ▷ normal_input way }
+fn normal_input(t: Result<(), Entry>, way: Way) -> Result<(), Entry>
+    ensures { result ≡ t ▷ normal_input way }
 {
     match way {
-        Way::Short => Ok(()),
-        Way::Long => Ok(()),
-        Way::Normal(n) => rows::finite_vector(Name::Normal, n),
+        Way::Short => t,
+        Way::Long => t,
+        Way::Normal(n) => rows::finite_vector(t, Name::Normal, n),
     }
 }
 
@@ -126,89 +131,64 @@ fn normal_input(way: Way) -> Result<(), Entry>
 pub fn input_row(mu: f64, first: Vector, second: Vector, way: Way, t: f64) -> Result<(), Entry>
     ensures { result ≡ Ok tt ▷ input_row mu first second way t }
 {
-    rows::finite_inputs(mu, Name::First, first, Name::Second, second)?;
-    rows::finite_number(Name::Time, t)?;
-    normal_input(way)
+    let inputs = rows::finite_inputs(mu, Name::First, first, Name::Second, second);
+    normal_input(rows::finite_number(inputs, Name::Time, t), way)
 }
 
 // Row 10 of a normal that is given: 2^-20 ≤ 1 − cosθ, then the normal's length 1 within 2^-40.
 #[tactic(auto, using(table::proofs::Laws::told_fails, table::proofs::Laws::told_passes))]
-fn normal_row(n: Vector, cos: f64) -> Result<(), Entry>
-    ensures { result ≡ Ok tt ▷ normal_row n cos }
+fn normal_row<R: Numbered>(n: Vector, cos: f64) -> Result<(), Entry<R>>
+    ensures { result ≡ Ok tt ▷ entries_by R.given_as (normal_row n cos) }
 {
     let least = Limit::AtLeast(9.5367431640625e-7);
     let one = Limit::OneWithin(9.094947017729282e-13);
-    table::test(
-        Refusal::AngleTooSmall,
-        Name::Versine,
-        Part::Whole,
-        1.0 - cos,
-        least,
-    )?;
-    table::test(
-        Refusal::AngleTooSmall,
-        Name::Normal,
-        Part::Length,
-        n.length(),
-        one,
-    )
+    let refusal = R::of(Refusal::AngleTooSmall);
+    table::test(refusal, Name::Versine, Part::Whole, 1.0 - cos, least)?;
+    table::test(refusal, Name::Normal, Part::Length, n.length(), one)
 }
 
 // Row 10: 2^-10 ≤ |u1×u2|, or that of the normal.
-fn angle_row(way: Way, d: Transfer) -> Result<(), Entry>
-    ensures { result ≡ Ok tt ▷ angle_row way d }
+#[tactic(auto, using(table::proofs::Laws::told_fails, table::proofs::Laws::told_passes))]
+fn angle_row<R: Numbered>(t: Result<(), Entry<R>>, way: Way, d: Transfer) -> Result<(), Entry<R>>
+    ensures { result ≡ t ▷ entries_by R.given_as (angle_row way d) }
 {
     let least = Limit::AtLeast(9.765625e-4);
+    let refusal = R::of(Refusal::AngleTooSmall);
+    t?;
     match way {
-        Way::Short => table::test(
-            Refusal::AngleTooSmall,
-            Name::Cross,
-            Part::Whole,
-            d.size,
-            least,
-        ),
-        Way::Long => table::test(
-            Refusal::AngleTooSmall,
-            Name::Cross,
-            Part::Whole,
-            d.size,
-            least,
-        ),
+        Way::Short => table::test(refusal, Name::Cross, Part::Whole, d.size, least),
+        Way::Long => table::test(refusal, Name::Cross, Part::Whole, d.size, least),
         Way::Normal(n) => normal_row(n, d.cos),
     }
 }
 
 // Row 6: r1/r2 < 2^7, then |sinθ/(1−cosθ)| ≤ 2^5.
 #[tactic(auto, using(table::proofs::Laws::told_fails, table::proofs::Laws::told_passes))]
-fn derived_row(d: Transfer) -> Result<(), Entry>
-    ensures { result ≡ Ok tt ▷ derived_row d }
+fn derived_row<R: Numbered>(t: Result<(), Entry<R>>, d: Transfer) -> Result<(), Entry<R>>
+    ensures { result ≡ t ▷ entries_by R.given_as (derived_row d) }
 {
-    table::test(
-        Refusal::DerivedOutOfRange,
-        Name::Ratio,
-        Part::Whole,
-        d.ratio,
-        Limit::Under(128.0),
-    )?;
-    reach::cothalf_row(d.cothalf)
+    let limit = Limit::Under(128.0);
+    let refusal = R::of(Refusal::DerivedOutOfRange);
+    t?;
+    let ratio = table::test(refusal, Name::Ratio, Part::Whole, d.ratio, limit);
+    reach::cothalf_row(ratio, d.cothalf)
 }
 
 // Rows 2, 3, 5, 10 and 6.
-pub fn range_rows(
+pub fn range_rows<R: Numbered>(
+    test: Result<(), Entry<R>>,
     mu: f64,
     first: Vector,
     second: Vector,
     way: Way,
     t: f64,
     d: Transfer,
-) -> Result<(), Entry>
-    ensures { result ≡ Ok tt ▷ range_rows mu first second way t d }
+) -> Result<(), Entry<R>>
+    ensures { result ≡ test ▷ entries_by R.given_as (range_rows mu first second way t d) }
 {
-    rows::mu_row(mu)?;
-    position_rows(first, second, d)?;
-    rows::transfer_time_row(t)?;
-    angle_row(way, d)?;
-    derived_row(d)
+    let a = position_rows(rows::mu_row(test, mu), first, second, d);
+    let b = angle_row(rows::transfer_time_row(a, t), way, d);
+    derived_row(b, d)
 }
 
 fn den_at(d: Transfer, cot: f64) -> f64
@@ -303,5 +283,6 @@ pub fn velocity_at(d: Transfer, n: i64) -> Vector
 pub fn result_row(v: Vector) -> Result<(), Entry>
     ensures { result ≡ first_failing (result_row v) }
 {
-    rows::velocity_components(Refusal::ResultOutOfRange, Name::Velocity, v)
+    let refusal = Refusal::ResultOutOfRange;
+    rows::velocity_components(Ok(()), refusal, Name::Velocity, v)
 }

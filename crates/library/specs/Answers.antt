@@ -3,12 +3,10 @@ use Rattle.wheel.specs.declared.Direction.{Direction}
 use Rattle.sight.specs.declared.Points.{Points}
 use Rattle.refusal.specs.declared.Refusal.{Refusal}
 use Rattle.std.specs.Prelude.{ℕ, ◌&&◌, List, [], ◌∷◌, leb, length, Float, Err, Ok, Result}
-use Rattle.theta.specs.declared.TransferTime.{TransferTime}
 use Rattle.theta.specs.declared.TransferTime.TheVariants as T
-use Rattle.theta.specs.Theta.{theta_of}
-use Rattle.apsides.specs.declared.Apsides.{Apsides}
+use Rattle.theta.specs.Theta.{TransferTime, theta_of}
 use Rattle.apsides.specs.declared.Apsides.TheVariants as A
-use Rattle.apsides.specs.Apsides.{apsides_of}
+use Rattle.apsides.specs.Apsides.{Apsides, apsides_of}
 use Rattle.wheel.specs.Wheel.{wheel_of}
 use Rattle.sight.specs.Sight.{sight_of}
 use Rattle.lent.specs.Given.{Told, answer, refused, room_for, vector_in, state_in}

@@ -3,9 +3,8 @@
 use Rattle.refusal.specs.declared.Refusal.{Refusal}
 use Rattle.std.specs.Prelude.{ℕ, cond, not, ◌&&◌, List, ◌∷◌, leb, length, Float}
 use Rattle.iterator.specs.declared.Bracket.{Bracket}
-use Rattle.solve.specs.declared.Advanced.{Advanced}
 use Rattle.solve.specs.declared.Advanced.TheVariants as Ad
-use Rattle.solve.specs.Answers.{advance_to}
+use Rattle.solve.specs.Answers.{Advanced, advance_to}
 use Rattle.graded.specs.Graded.{graded_advance}
 use Rattle.cases.specs.Cases.{orbit_numbers, orbit_wholes}
 use Rattle.cases.specs.Cases.{stopped_numbers, stopped_wholes, beginning_from, run_short, run_misjudged}

@@ -4,10 +4,9 @@ use Rattle.refusal.specs.declared.Refusal.{Refusal}
 use Rattle.std.specs.Prelude.{ℕ, Bool, cond, ◌&&◌, ◌||◌, List, [], ◌∷◌, leb, ltb, eqb, length, ℤ, Float}
 use Rattle.flight.specs.declared.Mu.{Mu}
 use Rattle.replay.specs.declared.Replay.{Replay}
-use Rattle.replay.specs.declared.Answer.{Answer}
 use Rattle.replay.specs.declared.Answer.TheVariants as A
 use Rattle.replay.specs.declared.Stepped.{Stepped}
-use Rattle.replay.specs.Replay.{step_of}
+use Rattle.replay.specs.Replay.{Answer, step_of}
 use Rattle.library_records.specs.Records.{count_from, record_from}
 use Rattle.lent.specs.Given.{Told, answer, refused, room_for}
 use Rattle.held_replay.specs.Held.{replay_from, held_wholes, held_numbers, held_wrong}

@@ -3,14 +3,11 @@
 use Rattle.refusal.specs.declared.Refusal.{Refusal}
 use Rattle.std.specs.Prelude.{ℕ, cond, ◌&&◌, List, [], ◌∷◌, leb, length, ℤ, Float}
 use Rattle.field.specs.Bytes.{bits_of}
-use Rattle.iterator.specs.declared.Tried.{Tried}
 use Rattle.iterator.specs.declared.Tried.TheVariants as P
-use Rattle.iterator.specs.Single.{single_trial_of}
-use Rattle.solve.specs.declared.Advanced.{Advanced}
+use Rattle.iterator.specs.Single.{Tried, single_trial_of}
 use Rattle.solve.specs.declared.Advanced.TheVariants as Ad
-use Rattle.solve.specs.declared.Transferred.{Transferred}
 use Rattle.solve.specs.declared.Transferred.TheVariants as Tr
-use Rattle.solve.specs.Answers.{advance_of, transfer_velocity_of}
+use Rattle.solve.specs.Answers.{Advanced, Transferred, advance_of, transfer_velocity_of}
 use Rattle.cases.specs.Cases.{judgement_from, way_from, normal_size, orbit_numbers, orbit_wholes, velocity_numbers, velocity_wholes}
 use Rattle.lent.specs.Given.{Told, answer, refused, room_for, vector_in, state_in}
 

@@ -2,9 +2,8 @@
 -- case 0, not finished is case 1. Assumes nothing: these are definitions.
 use Rattle.refusal.specs.declared.Refusal.{Refusal}
 use Rattle.std.specs.Prelude.{ℕ, Bool, cond, not, ◌&&◌, ◌||◌, List, ◌∷◌, leb, ltb, length, Float}
-use Rattle.solve.specs.declared.Transferred.{Transferred}
 use Rattle.solve.specs.declared.Transferred.TheVariants as Tr
-use Rattle.solve.specs.Answers.{transfer_velocity_to}
+use Rattle.solve.specs.Answers.{Transferred, transfer_velocity_to}
 use Rattle.graded.specs.Graded.{graded_transfer}
 use Rattle.cases.specs.Cases.{way_from, normal_size, velocity_numbers, velocity_wholes, beginning_from, run_short}
 use Rattle.library_advances.specs.Advances.{stopped_told, judged_for}

@@ -16,7 +16,7 @@ use Rattle.figures.proofs.Places.{places-length}
 use Rattle.figures.proofs.Lengths.{fixed-short}
 use Rattle.table.specs.declared.Limit.{Limit}
 use Rattle.table.specs.declared.Limit.TheVariants.{Finite, AtLeast, AtMost, Under, Over, SizeAtMost, SizeUnder, OneWithin}
-use Rattle.table.specs.declared.Entry.{Entry}
+use Rattle.table.specs.declared.Entry.{Entry as EntryOf}
 use Rattle.names.proofs.Lengths.{name-short}
 use Rattle.limits.specs.Limits.{is_power, power_pieces, other_pieces, bound_pieces, limit_pieces, exact_of, amount_pieces, failed_pieces}
 
@@ -64,7 +64,7 @@ amount-short : (x : Float) → size (amount_pieces x) ≤ 31
 unfolding concat amount_pieces
 amount-short x = simp length-append (omega (arith, fixed-short x))
 
-pub failed-short : (e : Entry) → size (failed_pieces e) ≤ 107
+pub failed-short : {R : Type 0} (e : EntryOf R) → size (failed_pieces e) ≤ 107
 unfolding concat failed_pieces
 failed-short e =
     simp (concat-append, length-append) (

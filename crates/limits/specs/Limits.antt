@@ -8,7 +8,7 @@ use Rattle.text.specs.Text.{ascii, decimal}
 use Rattle.figures.specs.Figures.{places, fixed_of}
 use Rattle.table.specs.declared.Limit.{Limit}
 use Rattle.table.specs.declared.Limit.TheVariants.{Finite, AtLeast, AtMost, Under, Over, SizeAtMost, SizeUnder, OneWithin}
-use Rattle.table.specs.declared.Entry.{Entry}
+use Rattle.table.specs.declared.Entry.{Entry as EntryOf}
 use Rattle.names.specs.Names.{name_pieces}
 
 -- ---- the number of a limit
@@ -58,7 +58,7 @@ unfoldable pub amount_pieces : Float → List (List ℕ)
 amount_pieces x = ascii " " ∷ fixed_of x ∷ ascii " must be " ∷ []
 
 -- `NAME D must be LIMIT bits X`
-unfoldable pub failed_pieces : Entry → List (List ℕ)
+unfoldable pub failed_pieces : {R : Type 0} → EntryOf R → List (List ℕ)
 failed_pieces e =
     name_pieces e.name e.part
     ++ (amount_pieces e.amount ++ (limit_pieces e.limit ++ (ascii " bits " ∷ exact_of e.amount ∷ [])))

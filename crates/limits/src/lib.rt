@@ -6,6 +6,7 @@ ghost use Rattle.text.specs.Text.{Put};
 ghost use Rattle.text.specs.Pieces.{Laid};
 ghost use Rattle.limits.specs.Limits.{is_power, power_pieces, other_pieces, bound_pieces, size_pieces, limit_pieces, exact_of, amount_pieces, failed_pieces};
 
+use refusal::Numbered;
 use table::{Entry, Limit};
 
 const FIFTY_BELOW: f64 = -50.0;
@@ -105,7 +106,7 @@ fn amount(buf: &mut [u8], at: usize, x: f64) -> usize
 }
 
 // A test that fails, put into a lent buffer at a place.
-pub fn failed(buf: &mut [u8], at: usize, e: Entry) -> usize
+pub fn failed<R: Numbered>(buf: &mut [u8], at: usize, e: Entry<R>) -> usize
     ensures { Laid buf.old at (failed_pieces e) buf.new result }
 {
     let n = e.name;

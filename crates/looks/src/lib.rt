@@ -20,9 +20,9 @@ pub fn wheel(line: &[u8]) -> Result<Request, u64>
 pub fn sight(line: &[u8]) -> Result<Request, u64>
     ensures { result ≡ read_by sight_form 1 line.now }
 {
-    let [ax, ay, az, px, py, pz] = forms::numbers::<6>(line, 1)?;
+    let [ax, ay, az, px, py, pz] = forms::numbers_as_array::<6>(line, 1)?;
     let elevation = numerals::whole_at(line, 7).ok_or(8u64)?;
-    let [hx, hy, hz, vx, vy, vz] = forms::only_numbers::<6>(line, 8)?;
+    let [hx, hy, hz, vx, vy, vz] = forms::only_numbers_as_array::<6>(line, 8)?;
     Ok(Request::Look(Look::Sight {
         active: Vector {
             x: ax,

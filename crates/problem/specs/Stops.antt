@@ -1,8 +1,8 @@
 -- Why a grid point has no time (T-07). Assumes nothing: these are definitions.
-use Rattle.table.specs.declared.Entry.{Entry}
+use Rattle.table.specs.Tests.{Entry}
 use Rattle.std.specs.Prelude.{cond, ℤ, Result, Ok, Err}
 use Rattle.std.specs.Int.Signed.{lt_z}
-use Rattle.reason.specs.declared.Stop.{Stop}
+use Rattle.reason.specs.Reasons.{Stop}
 use Rattle.reason.specs.declared.Stop.TheVariants as S
 use Rattle.kepler.specs.Kepler.{kepler_stop}
 use Rattle.lambert.specs.Lambert.{lambert_stop}

@@ -2,10 +2,10 @@
 #![tactic(auto)]
 
 ghost use Rattle.std.specs.Prelude.{◌≡◌};
-ghost use Rattle.reason.specs.Reasons.{reason_number};
+ghost use Rattle.reason.specs.Reasons.{reason_number_by};
 
 use iterator::{Bracket, Judgement};
-use refusal::Refusal;
+use refusal::{Numbered, Refusal};
 use table::Entry;
 
 // What is amiss with the bracket that trials are to go on from: an end and its place, with the judgement worked out
@@ -24,9 +24,9 @@ pub enum Amiss {
 
 // Why a neighbour has no time: it is the grid's own end, or this range test of its trial fails.
 #[derive(Clone, Copy)]
-pub enum Stop {
+pub enum Stop<R = Refusal> {
     EndOfGrid,
-    Test(Entry),
+    Test(Entry<R>),
 }
 
 // Two neighbours with their times, and the number of trials.
@@ -42,31 +42,30 @@ pub struct Neighbours {
 // A test ahead of the trials or of the result; a bracket to go on from; the neighbours, and why one has no time; for a
 // transfer time the range test alone; the bracket that a limit stopped the trials at; the settings' refusal. Or solved.
 #[derive(Clone, Copy)]
-pub enum Reason {
-    Test(Entry),
+pub enum Reason<R = Refusal> {
+    Test(Entry<R>),
     Amiss(Amiss),
-    TooShort(Bracket, Stop),
-    TooLong(Bracket, Stop),
-    Range(Entry),
+    TooShort(Bracket, Stop<R>),
+    TooLong(Bracket, Stop<R>),
+    Range(Entry<R>),
     NotFinished(Bracket),
-    Settings(Refusal),
+    Settings(R),
     Between(Neighbours),
     Solved,
 }
 
 // The refusal's number, and 0 for what is solved.
-#[tactic(auto, unfolding(crate::specs::Reasons::reason_number))]
-pub fn number_of(r: Reason) -> u32
-    ensures { result ≡ reason_number r }
+pub fn number_of<R: Numbered>(r: Reason<R>) -> u32
+    ensures { result ≡ reason_number_by R.its_number r }
 {
     match r {
-        Reason::Test(e) => e.refusal.number(),
+        Reason::Test(e) => e.refusal.to_number(),
         Reason::Amiss(_) => 6,
         Reason::TooShort(_, _) => 8,
         Reason::TooLong(_, _) => 7,
-        Reason::Range(e) => e.refusal.number(),
+        Reason::Range(e) => e.refusal.to_number(),
         Reason::NotFinished(_) => 29,
-        Reason::Settings(n) => n.number(),
+        Reason::Settings(n) => n.to_number(),
         Reason::Between(_) => 0,
         Reason::Solved => 0,
     }

@@ -18,31 +18,32 @@ use Rattle.columns.proofs.RowLaws.{end_short, labelled-short, refused-fits}
 use Rattle.brackets.proofs.Lengths.{stopped-fits, place-judged}
 use Rattle.limits.proofs.Lengths.{failed-short}
 use Rattle.ends.proofs.Lengths.{amiss-fits}
-use Rattle.table.specs.declared.Entry.{Entry}
+use Rattle.table.specs.declared.Entry.{Entry as EntryOf}
 use Rattle.iterator.specs.declared.Bracket.{Bracket}
-use Rattle.reason.specs.declared.Stop.{Stop}
+use Rattle.reason.specs.declared.Stop.{Stop as StopOf}
+use Rattle.reason.specs.declared.Reason.{Reason as ReasonOf}
+use Rattle.reason.specs.Reasons.{Reason}
 use Rattle.reason.specs.declared.Stop.TheVariants as S
 use Rattle.reason.specs.declared.Neighbours.{Neighbours}
-use Rattle.reason.specs.declared.Reason.{Reason}
 use Rattle.reason.specs.declared.Reason.TheVariants as R
-use Rattle.reasons.specs.Lines.{test_pieces, stop_pieces, because_pieces, neighbour_pieces, timed_pieces, between_pieces, reason_pieces}
+use Rattle.reasons.specs.Lines.{test_pieces, stop_pieces, because_pieces, neighbour_pieces, timed_pieces, between_pieces, reason_pieces_by, reason_pieces}
 
-test_short : (word : List ℕ) (e : Entry) → size (test_pieces word e) ≤ length word + 136
+test_short : {R : Type 0} (number : R → ℕ) (word : List ℕ) (e : EntryOf R) → size (test_pieces number word e) ≤ length word + 136
 unfolding concat test_pieces
-test_short word e = simp (concat-append, length-append) (omega (arith, at_most 20 (number_of e.refusal), failed-short e))
+test_short number word e = simp (concat-append, length-append) (omega (arith, at_most 20 (number e.refusal), failed-short e))
 
 -- ---- neighbours
 
-stop-short : (s : Stop) → size (stop_pieces s) ≤ 107
+stop-short : {R : Type 0} (s : StopOf R) → size (stop_pieces s) ≤ 107
 unfolding concat
 stop-short S.EndOfGrid = lit≤ tt
 stop-short (S.Test e) = failed-short e
 
-because-short : (s : Stop) → size (because_pieces s) ≤ 117
+because-short : {R : Type 0} (s : StopOf R) → size (because_pieces s) ≤ 117
 unfolding concat because_pieces
 because-short s = simp (concat-append, length-append) (omega (arith, stop-short s))
 
-neighbour-short : (lo : List ℕ) (b : Bracket) (s : Stop) → size (neighbour_pieces lo b s) ≤ length lo + 237
+neighbour-short : {R : Type 0} (lo : List ℕ) (b : Bracket) (s : StopOf R) → size (neighbour_pieces lo b s) ≤ length lo + 237
 unfolding concat neighbour_pieces
 neighbour-short lo b s =
     simp (concat-append, length-append) (
@@ -81,14 +82,17 @@ between-short n =
 
 -- ---- each reason
 
-pub reason-fits : (r : Reason) → size (reason_pieces r) ≤ 512
+pub reason-by-fits : {R : Type 0} (number : R → ℕ) (r : ReasonOf R) → size (reason_pieces_by number r) ≤ 512
 unfolding concat
-reason-fits (R.Test e) = omega (arith, test_short (ascii " ") e)
-reason-fits (R.Amiss a) = amiss-fits a
-reason-fits (R.TooShort b s) = omega (arith, neighbour-short (ascii "refused 8 lo") b s)
-reason-fits (R.TooLong b s) = omega (arith, neighbour-short (ascii "refused 7 lo") b s)
-reason-fits (R.Range e) = omega (arith, test_short (ascii " because ") e)
-reason-fits (R.NotFinished b) = stopped-fits b
-reason-fits (R.Settings n) = refused-fits (number_of n)
-reason-fits (R.Between n) = between-short n
-reason-fits R.Solved = lit≤ tt
+reason-by-fits number (R.Test e) = omega (arith, test_short number (ascii " ") e)
+reason-by-fits number (R.Amiss a) = amiss-fits a
+reason-by-fits number (R.TooShort b s) = omega (arith, neighbour-short (ascii "refused 8 lo") b s)
+reason-by-fits number (R.TooLong b s) = omega (arith, neighbour-short (ascii "refused 7 lo") b s)
+reason-by-fits number (R.Range e) = omega (arith, test_short number (ascii " because ") e)
+reason-by-fits number (R.NotFinished b) = stopped-fits b
+reason-by-fits number (R.Settings n) = refused-fits (number n)
+reason-by-fits number (R.Between n) = between-short n
+reason-by-fits number R.Solved = lit≤ tt
+
+pub reason-fits : (r : Reason) → size (reason_pieces r) ≤ 512
+reason-fits r = reason-by-fits number_of r

@@ -3,23 +3,24 @@
 #![tactic(auto)]
 
 ghost use Rattle.text.specs.Pieces.{Laid};
-ghost use Rattle.reasons.specs.Lines.{test_pieces, stop_pieces, because_pieces, neighbour_pieces, timed_pieces, between_pieces, reason_pieces};
+ghost use Rattle.reasons.specs.Lines.{test_pieces, stop_pieces, because_pieces, neighbour_pieces, timed_pieces, between_pieces, reason_pieces_by};
 
 use iterator::Bracket;
 use reason::{Neighbours, Reason, Stop};
+use refusal::Numbered;
 use table::Entry;
 
-fn test(buf: &mut [u8], word: &[u8], e: Entry) -> usize
-    ensures { Laid buf.old 0 (test_pieces word.now e) buf.new result }
+fn test<R: Numbered>(buf: &mut [u8], word: &[u8], e: Entry<R>) -> usize
+    ensures { Laid buf.old 0 (test_pieces R.its_number word.now e) buf.new result }
 {
     let a = text::bytes(buf, 0, b"refused ");
-    let b = text::number(buf, a, e.refusal.number() as u64);
+    let b = text::number(buf, a, e.refusal.to_number() as u64);
     let c = text::bytes(buf, b, word);
     let d = limits::failed(buf, c, e);
     text::byte(buf, d, b'\n')
 }
 
-fn stop(buf: &mut [u8], at: usize, s: Stop) -> usize
+fn stop<R: Numbered>(buf: &mut [u8], at: usize, s: Stop<R>) -> usize
     ensures { Laid buf.old at (stop_pieces s) buf.new result }
 {
     match s {
@@ -28,7 +29,7 @@ fn stop(buf: &mut [u8], at: usize, s: Stop) -> usize
     }
 }
 
-fn because(buf: &mut [u8], at: usize, s: Stop) -> usize
+fn because<R: Numbered>(buf: &mut [u8], at: usize, s: Stop<R>) -> usize
     ensures { Laid buf.old at (because_pieces s) buf.new result }
 {
     let a = text::bytes(buf, at, b" because ");
@@ -37,7 +38,7 @@ fn because(buf: &mut [u8], at: usize, s: Stop) -> usize
 }
 
 // Neighbours of which one has no time.
-fn neighbours(buf: &mut [u8], lo: &[u8], b: Bracket, s: Stop) -> usize
+fn neighbours<R: Numbered>(buf: &mut [u8], lo: &[u8], b: Bracket, s: Stop<R>) -> usize
     ensures { Laid buf.old 0 (neighbour_pieces lo.now b s) buf.new result }
 {
     let below = b.below;
@@ -70,8 +71,8 @@ fn between(buf: &mut [u8], n: Neighbours) -> usize
 }
 
 // The line of a reason.
-pub fn tell(buf: &mut [u8], r: Reason) -> usize
-    ensures { Laid buf.old 0 (reason_pieces r) buf.new result }
+pub fn tell<R: Numbered>(buf: &mut [u8], r: Reason<R>) -> usize
+    ensures { Laid buf.old 0 (reason_pieces_by R.its_number r) buf.new result }
 {
     match r {
         Reason::Test(e) => test(buf, b" ", e),

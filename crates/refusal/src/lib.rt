@@ -1,7 +1,7 @@
 // The refusals: why a routine gives no answer. Each has a number, which people and callers from C see.
 #![tactic(auto)]
 
-ghost use Rattle.std.specs.Prelude.{◌≡◌, ◌<◌};
+ghost use Rattle.std.specs.Prelude.{◌≡◌, ◌<◌, ℕ, refl};
 ghost use Rattle.refusal.specs.Refusals.{number_of};
 
 use std::error::Error;
@@ -108,6 +108,56 @@ impl Refusal {
             Refusal::NotFinished => 29,
             Refusal::NoSettings => 30,
         }
+    }
+}
+
+// What a refusal is given or handed on as: a case of `Refusal`, or any number. The routines of this project refuse with
+// cases; a caller that has a refusal from elsewhere hands it in by its number.
+pub trait Numbered: Copy {
+    ghost use Rattle.refusal.specs.declared.Refusal.{Refusal};
+
+    ghost given_as: { Refusal → Self };
+
+    ghost its_number: { Self → ℕ };
+
+    fn of(refusal: Refusal) -> Self
+        ensures { result ≡ given_as refusal };
+
+    fn to_number(self) -> u32
+        ensures { result ≡ its_number self };
+
+    ghost same_number: { (r : Refusal) → its_number (given_as r) ≡ number_of r };
+}
+
+impl Numbered for Refusal {
+    ghost given_as = { λ r. r };
+
+    ghost its_number = { number_of };
+
+    ghost same_number = { λ r. refl };
+
+    fn of(refusal: Refusal) -> Refusal {
+        refusal
+    }
+
+    fn to_number(self) -> u32 {
+        self.number()
+    }
+}
+
+impl Numbered for u32 {
+    ghost given_as = { number_of };
+
+    ghost its_number = { λ n. n };
+
+    ghost same_number = { λ r. refl };
+
+    fn of(refusal: Refusal) -> u32 {
+        refusal.number()
+    }
+
+    fn to_number(self) -> u32 {
+        self
     }
 }
 

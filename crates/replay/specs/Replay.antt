@@ -11,8 +11,13 @@ use Rattle.flight.specs.declared.Mu.{Mu}
 use Rattle.flight.specs.declared.Flight.{Flight}
 use Rattle.flight.specs.Flight.{too_far, flown_of, burned_of, off_of}
 use Rattle.replay.specs.declared.Replay.{Replay}
+use Rattle.replay.specs.declared.Answer.{Answer as AnswerOf}
 use Rattle.replay.specs.declared.Answer.TheVariants as A
 use Rattle.replay.specs.declared.Stepped.{Stepped}
+
+-- a step's own answer, whose refusal is a case of `Refusal`; AnswerOf R has a refusal of another type, as any number
+abbrev pub Answer : Type 0
+Answer = AnswerOf Refusal
 
 -- ---- the two vehicles
 

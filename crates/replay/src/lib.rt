@@ -15,13 +15,13 @@ pub struct Replay {
     pub v1: Option<Flight>,
 }
 
-// What a record came to: a state is set, a burn is done, a mark is off by so much, or its number.
+// What a record came to: a state is set, a burn is done, a mark is off by so much, or a refusal.
 #[derive(Clone, Copy)]
-pub enum Answer {
+pub enum Answer<R = Refusal> {
     Set,
     Done,
     Off(f64),
-    Refused(Refusal),
+    Refused(R),
 }
 
 #[derive(Clone, Copy)]

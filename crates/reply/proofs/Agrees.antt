@@ -12,11 +12,9 @@ use Rattle.vector.specs.declared.State.{State}
 use Rattle.iterator.specs.declared.Beginning.{Beginning}
 use Rattle.lambert.specs.declared.Way.{Way}
 use Rattle.solve.specs.declared.Fractions.{Fractions}
-use Rattle.solve.specs.declared.Advanced.{Advanced}
 use Rattle.solve.specs.declared.Advanced.TheVariants as Ad
-use Rattle.solve.specs.declared.Transferred.{Transferred}
 use Rattle.solve.specs.declared.Transferred.TheVariants as Tr
-use Rattle.solve.specs.Answers.{advance_to, transfer_velocity_to, advanced_number, transferred_number}
+use Rattle.solve.specs.Answers.{Advanced, Transferred, advance_to, transfer_velocity_to, advanced_number, transferred_number}
 use Rattle.settings.specs.History.{look_up}
 use Rattle.graded.specs.Graded.{fractions_of, graded_advanced, graded_transferred, advance_by, transfer_by}
 use Rattle.reason.specs.Reasons.{reason_number}

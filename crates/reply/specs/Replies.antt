@@ -9,9 +9,7 @@ use Rattle.vector.specs.declared.Vector.{Vector}
 use Rattle.vector.specs.declared.State.{State}
 use Rattle.iterator.specs.declared.Beginning.{Beginning}
 use Rattle.lambert.specs.declared.Way.{Way}
-use Rattle.solve.specs.declared.Advanced.{Advanced}
-use Rattle.solve.specs.declared.Transferred.{Transferred}
-use Rattle.solve.specs.Answers.{advance_to, transfer_velocity_to}
+use Rattle.solve.specs.Answers.{Advanced, Transferred, advance_to, transfer_velocity_to}
 use Rattle.graded.specs.Graded.{graded_advance, graded_transfer}
 use Rattle.theta.specs.Theta.{theta_of}
 use Rattle.apsides.specs.Apsides.{apsides_of}

@@ -13,7 +13,7 @@ use forms::Request;
 fn one(line: &[u8]) -> Result<f64, u64>
     ensures { AsksOne result line.now }
 {
-    let [x] = forms::only_numbers::<1>(line, 1)?;
+    let [x] = forms::only_numbers_as_array::<1>(line, 1)?;
     Ok(x)
 }
 

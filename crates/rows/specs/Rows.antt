@@ -1,14 +1,13 @@
 -- Rows 1 to 5 of the refusal table, and the radius of row 22. Assumes nothing: these are definitions.
-use Rattle.std.specs.Prelude.{ℕ, List, [], ◌∷◌, ◌++◌, Float}
-use Rattle.refusal.specs.declared.Refusal.TheVariants as Refusal
+use Rattle.std.specs.Prelude.{List, [], ◌∷◌, ◌++◌, Float}
 use Rattle.refusal.specs.declared.Refusal.{Refusal}
 use Rattle.real.specs.F64.{two^, f0}
 use Rattle.table.specs.declared.Name.{Name}
 use Rattle.table.specs.declared.Name.TheVariants.{Mu, Position, Velocity, Time, Radius}
 use Rattle.table.specs.declared.Part.TheVariants.{X, Y, Z, Length, Whole}
 use Rattle.table.specs.declared.Limit.TheVariants.{Finite, AtLeast, Under, Over, SizeAtMost, SizeUnder}
-use Rattle.table.specs.declared.Entry.{Entry}
-use Rattle.table.specs.Tests.{entry}
+use Rattle.table.specs.declared.Entry.{Entry as EntryOf}
+use Rattle.table.specs.Tests.{Entry, entry}
 use Rattle.vector.specs.declared.Vector.{Vector}
 use Rattle.vector.specs.declared.State.{State}
 use Rattle.vector.specs.Vectors.{position_of, velocity_of}
@@ -29,7 +28,7 @@ abbrev pub mu_row : Float → List Entry
 mu_row mu = entry Refusal.MuOutOfRange Mu Whole mu (AtLeast (two^ 28)) ∷ entry Refusal.MuOutOfRange Mu Whole mu (Under (two^ 36)) ∷ []
 
 -- a position component is 2^29 or more in size
-abbrev pub position_components : Refusal → Name → Vector → List Entry
+abbrev pub position_components : {R : Type 0} → R → Name → Vector → List (EntryOf R)
 position_components refusal name r =
     entry refusal name X r.x (SizeUnder (two^ 29))
     ∷ entry refusal name Y r.y (SizeUnder (two^ 29))
@@ -42,7 +41,7 @@ position_row name r length =
     position_components Refusal.PositionOutOfRange name r ++ (entry Refusal.PositionOutOfRange name Length length (AtLeast (two^ 18)) ∷ entry Refusal.PositionOutOfRange name Length length (Under (two^ 29)) ∷ [])
 
 -- 4, and part of 9: a velocity component is over 2^7 in size
-abbrev pub velocity_components : Refusal → Name → Vector → List Entry
+abbrev pub velocity_components : {R : Type 0} → R → Name → Vector → List (EntryOf R)
 velocity_components refusal name v =
     entry refusal name X v.x (SizeAtMost (two^ 7))
     ∷ entry refusal name Y v.y (SizeAtMost (two^ 7))

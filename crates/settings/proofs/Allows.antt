@@ -8,8 +8,7 @@ use mathlib.Core.Path.{◌≡◌, refl, sym, ap, ◌∙◌}
 use mathlib.Core.Bool.{Bool, true, false, cond}
 use lib.Dec.{ltb}
 use borrow.Author.Tests.{ltb-false}
-use Rattle.table.specs.declared.Entry.{Entry}
-use Rattle.table.specs.Tests.{first_failing}
+use Rattle.table.specs.Tests.{Entry, first_failing}
 use Rattle.settings.specs.declared.allowed.Setting.{Setting}
 use Rattle.settings.specs.Allowed.{setting_tests, refusal_by, refusal_of}
 

@@ -6,8 +6,7 @@ use Rattle.table.specs.declared.Name.{Name}
 use Rattle.table.specs.declared.Name.TheVariants.{Mu, Radius, Closed, Fair}
 use Rattle.table.specs.declared.Part.TheVariants.{Whole}
 use Rattle.table.specs.declared.Limit.TheVariants.{AtLeast, AtMost}
-use Rattle.table.specs.declared.Entry.{Entry}
-use Rattle.table.specs.Tests.{entry, first_failing}
+use Rattle.table.specs.Tests.{Entry, entry, first_failing}
 use Rattle.rows.specs.Rows.{finite_number, mu_row, radius_row}
 use Rattle.settings.specs.declared.allowed.Setting.{Setting}
 

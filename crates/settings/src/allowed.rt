@@ -21,10 +21,10 @@ pub struct Setting {
 fn finite_row(x: Setting) -> Result<(), Entry>
     ensures { result ≡ Ok tt ▷ finite_row x }
 {
-    rows::finite_number(Name::Mu, x.mu)?;
-    rows::finite_number(Name::Radius, x.radius)?;
-    rows::finite_number(Name::Closed, x.closed)?;
-    rows::finite_number(Name::Fair, x.fair)
+    let mu = rows::finite_number(Ok(()), Name::Mu, x.mu);
+    let radius = rows::finite_number(mu, Name::Radius, x.radius);
+    let closed = rows::finite_number(radius, Name::Closed, x.closed);
+    rows::finite_number(closed, Name::Fair, x.fair)
 }
 
 fn test(name: Name, amount: f64, limit: Limit) -> Result<(), Entry>
@@ -56,10 +56,9 @@ fn fractions_row(closed: f64, fair: f64) -> Result<(), Entry>
 pub fn tests(x: Setting) -> Result<(), Entry>
     ensures { result ≡ first_failing (setting_tests x) }
 {
-    finite_row(x)?;
-    rows::mu_row(x.mu)?;
-    fractions_row(x.closed, x.fair)?;
-    rows::radius_row(x.radius)
+    rows::mu_row(finite_row(x), x.mu)?;
+    let fractions = fractions_row(x.closed, x.fair);
+    rows::radius_row(fractions, x.radius)
 }
 
 // Why a setting is refused, and None for one that is allowed.

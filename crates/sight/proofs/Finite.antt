@@ -1,5 +1,4 @@
 -- Every number of an answer is finite, so that no answer holds a NaN, and the larger k stands first. Assumes nothing.
-use Rattle.table.specs.declared.Entry.{Entry}
 use Rattle.std.specs.Prelude.{Err, Ok, Result}
 use Rattle.refusal.specs.declared.Refusal.{Refusal}
 use Rattle.std.proofs.Common.{◌≡◌, ℕ, zero, suc, ◌+◌, ◌*◌, ◌^◌, ◌<◌, ◌≤◌, true, false, not, ◌&&◌, ◌||◌, T, eqb, ltb, pos, sym, refl, ◌∙◌, mul-pos, arith, lit≤, ltb-false, le-ltb, lt-ltb}
@@ -16,7 +15,7 @@ use Rattle.root.specs.Root.{root_of}
 use Rattle.root.proofs.Sign.{root-not-below}
 use Rattle.vector.specs.declared.Vector.{Vector}
 use Rattle.vector.specs.Vectors.{dot_of}
-use Rattle.table.specs.Tests.{first_failing, all_meet}
+use Rattle.table.specs.Tests.{Entry, first_failing, all_meet}
 use Rattle.table.proofs.Laws.{all_met_lem, met-left, met-right, MetAt, met_at}
 use Rattle.rows.proofs.Components.{Finite}
 use Rattle.wheel.specs.Wheel.{direction_of, signed_sine, signed_cosine, over_of}

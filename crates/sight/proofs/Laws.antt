@@ -1,5 +1,4 @@
 -- The refusal number of the sight line is the first row's that applies; 16 is given exactly where E is over 3,599. Assumes nothing.
-use Rattle.table.specs.declared.Entry.{Entry}
 use Rattle.std.specs.Prelude.{Ok, Result, Err}
 use Rattle.std.proofs.Common.{◌≡◌, ℕ, ◌*◌, ◌<◌, ◌≤◌, Bool, true, false, T, ltb, List, [], ◌∷◌, ℤ, pos, sym, refl, ap, ◌∙◌, subst, mul-one, mul_right_comm, le_of_mul-le-mul_right, arith, lit≤, ltb-false, ltb-true, lt-ltb}
 use lib.Ieee.{Float, nan, inf, fin, binary64, up, down, round, of_bits, of_int, le, lt, eq}
@@ -12,7 +11,7 @@ use Rattle.real.specs.F64.{◌≤ᶠ◌, bits}
 use Rattle.real.proofs.Bounds.{Within, Signed, round-signed, below-whole, or_cases}
 use Rattle.vector.specs.declared.Vector.{Vector}
 use Rattle.table.specs.Tests as Tests
-use Rattle.table.specs.Tests.{◌▷◌, first_failing, all_meet, first_row}
+use Rattle.table.specs.Tests.{Entry, ◌▷◌, first_failing, all_meet, first_row}
 use Rattle.table.proofs.Laws.{first_failing_lem, then, all_met_lem, first_row_lem, met_at}
 use Rattle.wheel.specs.Wheel.{direction_of, wheel_of}
 use Rattle.sight.specs.declared.Line.{Line}

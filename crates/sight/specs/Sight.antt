@@ -1,7 +1,6 @@
 -- The sight line, in the operations of f64 and in their order. Assumes nothing: these are definitions.
 use Rattle.refusal.specs.declared.Refusal.{Refusal}
 use Rattle.std.specs.Prelude.{ℕ, List, [], ◌∷◌, ◌++◌, pos, Float, Err, Ok, Result}
-use Rattle.refusal.specs.declared.Refusal.TheVariants as Refusal
 use Rattle.refusal.specs.Refusals.{number_of}
 use Rattle.std.specs.Float.Ieee.{neg, of_int}
 use Rattle.std.specs.Float.{binary64}
@@ -13,8 +12,7 @@ use Rattle.table.specs.declared.Name.{Name}
 use Rattle.table.specs.declared.Name.TheVariants.{Active, Passive, Elevation, Horizontal, Vertical, Radicand}
 use Rattle.table.specs.declared.Part.TheVariants.{Length, Whole}
 use Rattle.table.specs.declared.Limit.TheVariants.{AtLeast, AtMost, OneWithin}
-use Rattle.table.specs.declared.Entry.{Entry}
-use Rattle.table.specs.Tests.{entry, first_failing}
+use Rattle.table.specs.Tests.{Entry, entry, first_failing}
 use Rattle.rows.specs.Rows.{finite_vector, position_row}
 use Rattle.wheel.specs.declared.Direction.{Direction}
 use Rattle.wheel.specs.Wheel.{direction_of}

@@ -55,10 +55,10 @@ fn point(a: Vector, k: f64, u: Vector) -> Vector
 fn finite_row(a: Vector, p: Vector, h: Vector, v: Vector) -> Result<(), Entry>
     ensures { result ≡ Ok tt ▷ finite_row a p h v }
 {
-    rows::finite_vector(Name::Active, a)?;
-    rows::finite_vector(Name::Passive, p)?;
-    rows::finite_vector(Name::Horizontal, h)?;
-    rows::finite_vector(Name::Vertical, v)
+    let active = rows::finite_vector(Ok(()), Name::Active, a);
+    let both = rows::finite_vector(active, Name::Passive, p);
+    let horizontal = rows::finite_vector(both, Name::Horizontal, h);
+    rows::finite_vector(horizontal, Name::Vertical, v)
 }
 
 // Row 3, of either position.
@@ -66,8 +66,8 @@ fn finite_row(a: Vector, p: Vector, h: Vector, v: Vector) -> Result<(), Entry>
 fn position_rows(a: Vector, p: Vector) -> Result<(), Entry>
     ensures { result ≡ Ok tt ▷ position_rows a p }
 {
-    rows::position_row(Name::Active, a, a.length())?;
-    rows::position_row(Name::Passive, p, p.length())
+    let active = rows::position_row(Ok(()), Name::Active, a, a.length());
+    rows::position_row(active, Name::Passive, p, p.length())
 }
 
 // Row 16: E at most 3,599.

@@ -6,6 +6,7 @@ use lib.ListN.{length, length-append}
 use lib.Dec.{lit≤}
 use lib.IntN.{ℤ}
 use lib.Ieee.{Float}
+use Rattle.refusal.specs.Refusals.{number_of}
 use Rattle.text.specs.Text.{ascii}
 use Rattle.text.specs.Pieces.{concat}
 use Rattle.text.proofs.Decimals.{at_most}
@@ -15,15 +16,15 @@ use Rattle.columns.proofs.RowLaws.{end_short, labelled-short, refused-fits}
 use Rattle.brackets.proofs.Lengths.{stopped-fits}
 use Rattle.vector.specs.declared.Vector.{Vector}
 use Rattle.vector.specs.declared.State.{State}
-use Rattle.solve.specs.Answers.{advanced_number, transferred_number}
+use Rattle.solve.specs.Answers.{Advanced, Transferred, advanced_number, transferred_number}
 use Rattle.solve.specs.declared.Grade.{Grade}
 use Rattle.solve.specs.declared.Grade.TheVariants.{Closed, Fair, Rough}
 use Rattle.solve.specs.declared.Solution.{Solution}
-use Rattle.solve.specs.declared.Advanced.{Advanced}
+use Rattle.solve.specs.declared.Advanced.{Advanced as AdvancedOf}
 use Rattle.solve.specs.declared.Advanced.TheVariants as Ad
-use Rattle.solve.specs.declared.Transferred.{Transferred}
+use Rattle.solve.specs.declared.Transferred.{Transferred as TransferredOf}
 use Rattle.solve.specs.declared.Transferred.TheVariants as Tr
-use Rattle.solutions.specs.Solutions.{grade_text, count_pieces, times_pieces, graded_pieces, done_pieces, turned_pieces, orbit_pieces, transfer_pieces, advanced_pieces, transferred_pieces}
+use Rattle.solutions.specs.Solutions.{grade_text, count_pieces, times_pieces, graded_pieces, done_pieces, turned_pieces, orbit_pieces, transfer_pieces, advanced_pieces_by, transferred_pieces_by, advanced_pieces, transferred_pieces}
 
 grade-short : (g : Grade) → length (grade_text g) ≤ 6
 grade-short Closed = lit≤ tt
@@ -72,15 +73,21 @@ transfer-short v x =
 
 -- ---- each answer
 
+pub advanced-by-fits : {R : Type 0} (number : R → ℕ) (a : AdvancedOf R) → size (advanced_pieces_by number a) ≤ 512
+advanced-by-fits number (Ad.Found s x turns) = orbit-short s x turns
+advanced-by-fits number Ad.TooLong = refused-fits (advanced_number Ad.TooLong)
+advanced-by-fits number (Ad.NotFinished b) = stopped-fits b
+advanced-by-fits number (Ad.Refused n) = refused-fits (number n)
+
+pub transferred-by-fits : {R : Type 0} (number : R → ℕ) (a : TransferredOf R) → size (transferred_pieces_by number a) ≤ 512
+transferred-by-fits number (Tr.Found v x) = transfer-short v x
+transferred-by-fits number Tr.TooLong = refused-fits (transferred_number Tr.TooLong)
+transferred-by-fits number Tr.TooShort = refused-fits (transferred_number Tr.TooShort)
+transferred-by-fits number (Tr.NotFinished b) = stopped-fits b
+transferred-by-fits number (Tr.Refused n) = refused-fits (number n)
+
 pub advanced-fits : (a : Advanced) → size (advanced_pieces a) ≤ 512
-advanced-fits (Ad.Found s x turns) = orbit-short s x turns
-advanced-fits Ad.TooLong = refused-fits (advanced_number Ad.TooLong)
-advanced-fits (Ad.NotFinished b) = stopped-fits b
-advanced-fits (Ad.Refused n) = refused-fits (advanced_number (Ad.Refused n))
+advanced-fits a = advanced-by-fits number_of a
 
 pub transferred-fits : (a : Transferred) → size (transferred_pieces a) ≤ 512
-transferred-fits (Tr.Found v x) = transfer-short v x
-transferred-fits Tr.TooLong = refused-fits (transferred_number Tr.TooLong)
-transferred-fits Tr.TooShort = refused-fits (transferred_number Tr.TooShort)
-transferred-fits (Tr.NotFinished b) = stopped-fits b
-transferred-fits (Tr.Refused n) = refused-fits (transferred_number (Tr.Refused n))
+transferred-fits a = transferred-by-fits number_of a

@@ -1,18 +1,19 @@
 -- The iterated solves' answers as lines, piece by piece: decimals for people, then `bits` and the same numbers exactly; a
 -- refusal by its number. Assumes nothing: these are definitions.
 use Rattle.std.specs.Prelude.{ℕ, List, [], ◌∷◌, ◌++◌, ℤ, Float}
+use Rattle.refusal.specs.Refusals.{number_of}
 use Rattle.text.specs.Text.{ascii, decimal, signed_text}
 use Rattle.columns.specs.Rows.{labelled_pieces, end_pieces, refused_pieces}
 use Rattle.brackets.specs.Brackets.{stopped_pieces}
 use Rattle.vector.specs.declared.Vector.{Vector}
 use Rattle.vector.specs.declared.State.{State}
-use Rattle.solve.specs.Answers.{advanced_number, transferred_number}
+use Rattle.solve.specs.Answers.{Advanced, Transferred, advanced_number, transferred_number}
 use Rattle.solve.specs.declared.Grade.{Grade}
 use Rattle.solve.specs.declared.Grade.TheVariants.{Closed, Fair, Rough}
 use Rattle.solve.specs.declared.Solution.{Solution}
-use Rattle.solve.specs.declared.Advanced.{Advanced}
+use Rattle.solve.specs.declared.Advanced.{Advanced as AdvancedOf}
 use Rattle.solve.specs.declared.Advanced.TheVariants as Ad
-use Rattle.solve.specs.declared.Transferred.{Transferred}
+use Rattle.solve.specs.declared.Transferred.{Transferred as TransferredOf}
 use Rattle.solve.specs.declared.Transferred.TheVariants as Tr
 
 abbrev pub grade_text : Grade → List ℕ
@@ -58,15 +59,22 @@ transfer_pieces v x = done_pieces x ++ (velocity_pieces v.x v.y v.z ++ end_piece
 
 -- ---- each answer
 
+-- whatever its refusal is, by the number of that
+abbrev pub advanced_pieces_by : {R : Type 0} → (R → ℕ) → AdvancedOf R → List (List ℕ)
+advanced_pieces_by number (Ad.Found s x turns) = orbit_pieces s x turns
+advanced_pieces_by number Ad.TooLong = refused_pieces (advanced_number Ad.TooLong)
+advanced_pieces_by number (Ad.NotFinished b) = stopped_pieces b
+advanced_pieces_by number (Ad.Refused n) = refused_pieces (number n)
+
+abbrev pub transferred_pieces_by : {R : Type 0} → (R → ℕ) → TransferredOf R → List (List ℕ)
+transferred_pieces_by number (Tr.Found v x) = transfer_pieces v x
+transferred_pieces_by number Tr.TooLong = refused_pieces (transferred_number Tr.TooLong)
+transferred_pieces_by number Tr.TooShort = refused_pieces (transferred_number Tr.TooShort)
+transferred_pieces_by number (Tr.NotFinished b) = stopped_pieces b
+transferred_pieces_by number (Tr.Refused n) = refused_pieces (number n)
+
 abbrev pub advanced_pieces : Advanced → List (List ℕ)
-advanced_pieces (Ad.Found s x turns) = orbit_pieces s x turns
-advanced_pieces Ad.TooLong = refused_pieces (advanced_number Ad.TooLong)
-advanced_pieces (Ad.NotFinished b) = stopped_pieces b
-advanced_pieces (Ad.Refused n) = refused_pieces (advanced_number (Ad.Refused n))
+advanced_pieces a = advanced_pieces_by number_of a
 
 abbrev pub transferred_pieces : Transferred → List (List ℕ)
-transferred_pieces (Tr.Found v x) = transfer_pieces v x
-transferred_pieces Tr.TooLong = refused_pieces (transferred_number Tr.TooLong)
-transferred_pieces Tr.TooShort = refused_pieces (transferred_number Tr.TooShort)
-transferred_pieces (Tr.NotFinished b) = stopped_pieces b
-transferred_pieces (Tr.Refused n) = refused_pieces (transferred_number (Tr.Refused n))
+transferred_pieces a = transferred_pieces_by number_of a

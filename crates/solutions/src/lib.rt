@@ -4,9 +4,9 @@
 
 ghost use Rattle.text.specs.Text.{Put};
 ghost use Rattle.text.specs.Pieces.{Laid};
-ghost use Rattle.solutions.specs.Solutions.{grade_text, count_pieces, times_pieces, graded_pieces, done_pieces, turned_pieces, orbit_pieces, transfer_pieces, advanced_pieces, transferred_pieces};
+ghost use Rattle.solutions.specs.Solutions.{grade_text, count_pieces, times_pieces, graded_pieces, done_pieces, turned_pieces, orbit_pieces, transfer_pieces, advanced_pieces_by, transferred_pieces_by};
 
-use refusal::Refusal;
+use refusal::{Numbered, Refusal};
 use solve::{Advanced, Grade, Solution, Transferred};
 use vector::{State, Vector};
 
@@ -89,8 +89,8 @@ fn velocity(buf: &mut [u8], v: Vector, x: Solution) -> usize
 }
 
 // Kepler's answer.
-pub fn tell_advance(buf: &mut [u8], a: Advanced) -> usize
-    ensures { Laid buf.old 0 (advanced_pieces a) buf.new result }
+pub fn tell_advance<R: Numbered>(buf: &mut [u8], a: Advanced<R>) -> usize
+    ensures { Laid buf.old 0 (advanced_pieces_by R.its_number a) buf.new result }
 {
     match a {
         Advanced::Found(s, x, turns) => orbit(buf, s, x, turns),
@@ -101,8 +101,8 @@ pub fn tell_advance(buf: &mut [u8], a: Advanced) -> usize
 }
 
 // Lambert's answer.
-pub fn tell_transfer(buf: &mut [u8], a: Transferred) -> usize
-    ensures { Laid buf.old 0 (transferred_pieces a) buf.new result }
+pub fn tell_transfer<R: Numbered>(buf: &mut [u8], a: Transferred<R>) -> usize
+    ensures { Laid buf.old 0 (transferred_pieces_by R.its_number a) buf.new result }
 {
     match a {
         Transferred::Found(v, x) => velocity(buf, v, x),

@@ -1,6 +1,5 @@
 -- What a solve finds is graded by 01's fractions of the size of time asked for, from wherever its trials began. Assumes nothing.
 use Rattle.std.specs.Prelude.{Err, Ok, Result}
-use Rattle.table.specs.declared.Entry.{Entry}
 use Prim.Native.Nat.{ℕ}
 use mathlib.Core.Path.{◌≡◌, refl}
 use mathlib.Core.Bool.{Bool, true, false, cond}
@@ -8,7 +7,7 @@ use lib.Ieee.{Float}
 use Rattle.real.specs.F64.{size_of}
 use Rattle.vector.specs.declared.Vector.{Vector}
 use Rattle.vector.specs.declared.State.{State}
-use Rattle.table.specs.Tests.{first_failing}
+use Rattle.table.specs.Tests.{Entry, first_failing}
 use Rattle.iterator.specs.Run.{more}
 use Rattle.iterator.specs.declared.Judgement.{Judgement}
 use Rattle.iterator.specs.declared.Judgement.TheVariants.{Low, High, Under, Over}
@@ -20,15 +19,13 @@ use Rattle.lambert.specs.declared.Way.{Way}
 use Rattle.lambert.specs.declared.Transfer.{Transfer}
 use Rattle.lambert.specs.Lambert.{transfer_of, velocity_at, result_row}
 use Rattle.solve.specs.Ends.{motion_for, turns_for, kepler_ended, lambert_ended}
-use Rattle.solve.specs.Answers.{standard_fractions, grade_of, outcome_by, outcome_at, concluded_of, advanced_at, advanced_as, advanced_end, advance_to, transferred_at, transferred_as, transferred_end, transfer_velocity_to}
-use Rattle.trials.specs.declared.Ended.{Ended}
+use Rattle.solve.specs.Answers.{Advanced, Transferred, standard_fractions, grade_of, outcome_by, outcome_at, concluded_of, advanced_at, advanced_as, advanced_end, advance_to, transferred_at, transferred_as, transferred_end, transfer_velocity_to}
+use Rattle.trials.specs.Ended.{Ended}
 use Rattle.trials.specs.declared.Ended.TheVariants as E
 use Rattle.solve.specs.declared.Solution.{Solution}
 use Rattle.solve.specs.declared.Outcome.{Outcome}
 use Rattle.solve.specs.declared.Outcome.TheVariants as O
-use Rattle.solve.specs.declared.Advanced.{Advanced}
 use Rattle.solve.specs.declared.Advanced.TheVariants as Ad
-use Rattle.solve.specs.declared.Transferred.{Transferred}
 use Rattle.solve.specs.declared.Transferred.TheVariants as Tr
 
 abbrev pub Own : Float → Solution → Type 0

@@ -2,14 +2,13 @@
 -- the upper neighbour has none; and what is given for a lower one without. Assumes nothing.
 use Rattle.refusal.specs.Refusals.{number_of}
 use Rattle.std.specs.Prelude.{Err, Ok, Result}
-use Rattle.table.specs.declared.Entry.{Entry}
 use Prim.Native.Nat.{ℕ}
 use mathlib.Core.Path.{◌≡◌, refl}
 use mathlib.Core.Bool.{Bool, true, false, cond}
 use lib.Ieee.{Float}
 use Rattle.vector.specs.declared.Vector.{Vector}
 use Rattle.vector.specs.declared.State.{State}
-use Rattle.table.specs.Tests.{first_failing, test_number}
+use Rattle.table.specs.Tests.{Entry, first_failing, test_number}
 use Rattle.iterator.specs.Run.{more}
 use Rattle.iterator.specs.declared.Judgement.{Judgement}
 use Rattle.iterator.specs.declared.Judgement.TheVariants.{Low, High, Under, Over}

@@ -3,7 +3,6 @@
 -- and such a continuation is never refused with 6. Assumes nothing.
 use Rattle.std.specs.Prelude.{Err, Ok, Result}
 use Rattle.reason.specs.declared.Amiss.{Amiss}
-use Rattle.table.specs.declared.Entry.{Entry}
 use Prim.Native.Nat.{ℕ, ◌≤◌}
 use native.Mathlib.Omega.{arith}
 use native.Mathlib.Nat.{le_of_lt}
@@ -16,7 +15,7 @@ use lib.Ieee.{Float}
 use Rattle.facts.proofs.Wholes.{zero_one}
 use Rattle.real.specs.F64.{size_of}
 use Rattle.vector.specs.declared.State.{State}
-use Rattle.table.specs.Tests.{first_failing, all_meet}
+use Rattle.table.specs.Tests.{Entry, first_failing, all_meet}
 use Rattle.table.proofs.Laws.{all_met_lem, met-then}
 use Rattle.iterator.specs.declared.Bracket.{Bracket}
 use Rattle.kepler.specs.declared.Motion.{Motion}
@@ -27,13 +26,12 @@ use Rattle.trials.specs.Ended.{begun_of, ended_from}
 use Rattle.trials.specs.Carried.{times_input}
 use Rattle.solve.specs.Ahead.{kepler_ahead}
 use Rattle.solve.specs.Ends.{motion_for, turns_for}
-use Rattle.solve.specs.Answers.{outcome_to, advanced_at, advanced_as, advanced_by, advance_of, advanced_end, advance_to, advanced_number}
+use Rattle.solve.specs.Answers.{Advanced, outcome_to, advanced_at, advanced_as, advanced_by, advance_of, advanced_end, advance_to, advanced_number}
 use Rattle.solve.specs.declared.Solution.{Solution}
 use Rattle.solve.specs.declared.Outcome.{Outcome}
 use Rattle.solve.specs.declared.Outcome.TheVariants as O
 use Rattle.iterator.specs.declared.Beginning.{Beginning}
 use Rattle.iterator.specs.declared.Beginning.TheVariants.{Start, Stopped}
-use Rattle.solve.specs.declared.Advanced.{Advanced}
 use Rattle.solve.specs.declared.Advanced.TheVariants as Ad
 use Rattle.solve.proofs.Parts.{failed-then, kepler-whole, kepler-among}
 use Rattle.solve.proofs.Asked.{rest-asked}

@@ -1,5 +1,4 @@
 -- The transfer under a limit: what holds of the advance, with 52 for 74. Assumes nothing.
-use Rattle.table.specs.declared.Entry.{Entry}
 use Rattle.std.specs.Prelude.{Err, Ok, Result}
 use Rattle.reason.specs.declared.Amiss.{Amiss}
 use Prim.Native.Nat.{ℕ, ◌≤◌}
@@ -12,7 +11,7 @@ use lib.Dec.{ltb, lit≤}
 use lib.Ieee.{Float}
 use Rattle.facts.proofs.Wholes.{zero_one}
 use Rattle.vector.specs.declared.Vector.{Vector}
-use Rattle.table.specs.Tests.{first_failing, all_meet, passes}
+use Rattle.table.specs.Tests.{Entry, first_failing, all_meet, passes}
 use Rattle.table.proofs.Laws.{one-row}
 use Rattle.iterator.specs.declared.Bracket.{Bracket}
 use Rattle.lambert.specs.declared.Way.{Way}
@@ -23,14 +22,13 @@ use Rattle.problem.specs.declared.Problem.TheVariants.{Lambert}
 use Rattle.trials.specs.Ended.{begun_of, ended_from}
 use Rattle.trials.specs.Carried.{times_input}
 use Rattle.solve.specs.Ahead.{lambert_ahead}
-use Rattle.solve.specs.Answers.{outcome_to}
+use Rattle.solve.specs.Answers.{Transferred, outcome_to}
 use Rattle.solve.specs.Answers.{transferred_at, transferred_as, transferred_by, transfer_velocity_of, transferred_end, transfer_velocity_to, transferred_number}
 use Rattle.solve.specs.declared.Solution.{Solution}
 use Rattle.solve.specs.declared.Outcome.{Outcome}
 use Rattle.solve.specs.declared.Outcome.TheVariants as O
 use Rattle.iterator.specs.declared.Beginning.{Beginning}
 use Rattle.iterator.specs.declared.Beginning.TheVariants.{Start, Stopped}
-use Rattle.solve.specs.declared.Transferred.{Transferred}
 use Rattle.solve.specs.declared.Transferred.TheVariants as Tr
 use Rattle.solve.proofs.Parts.{lambert-start, lambert-whole, lambert-among}
 use Rattle.solve.proofs.Asked.{lambert-asked}

@@ -1,6 +1,6 @@
 -- Kepler's lower neighbour always has a time: the lower end starts low, and Kepler's judge never says under. Assumes nothing.
 use Rattle.std.specs.Prelude.{Err, Ok, Result}
-use Rattle.table.specs.declared.Entry.{Entry}
+use Rattle.table.specs.Tests.{Entry}
 use Rattle.conic.specs.declared.Point.{Point}
 use mathlib.Core.Path.{◌≡◌, refl, sym, subst}
 use mathlib.Core.Bool.{Bool, true, false, cond, true≢false}

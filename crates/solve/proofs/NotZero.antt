@@ -7,11 +7,9 @@ use Rattle.vector.specs.declared.Vector.{Vector}
 use Rattle.vector.specs.declared.State.{State}
 use Rattle.iterator.specs.declared.Beginning.{Beginning}
 use Rattle.lambert.specs.declared.Way.{Way}
-use Rattle.solve.specs.declared.Advanced.{Advanced}
 use Rattle.solve.specs.declared.Advanced.TheVariants as Ad
-use Rattle.solve.specs.declared.Transferred.{Transferred}
 use Rattle.solve.specs.declared.Transferred.TheVariants as Tr
-use Rattle.solve.specs.Answers.{advance_of, advance_to, transfer_velocity_of, transfer_velocity_to}
+use Rattle.solve.specs.Answers.{Advanced, Transferred, advance_of, advance_to, transfer_velocity_of, transfer_velocity_to}
 
 -- ---- the advance
 

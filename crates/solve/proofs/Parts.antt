@@ -7,8 +7,7 @@ use lib.Ieee.{Float}
 use Rattle.facts.proofs.Truth.{both}
 use Rattle.vector.specs.declared.Vector.{Vector}
 use Rattle.vector.specs.declared.State.{State}
-use Rattle.table.specs.declared.Entry.{Entry}
-use Rattle.table.specs.Tests.{first_failing, all_meet}
+use Rattle.table.specs.Tests.{Entry, first_failing, all_meet}
 use Rattle.table.proofs.Laws.{reason, reason-only, all_met_lem, none-fails, met-then, meet-both, met-left, met-right}
 use Rattle.kepler.specs.declared.Motion.{Motion}
 use Rattle.kepler.specs.Kepler as K

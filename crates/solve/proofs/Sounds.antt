@@ -1,5 +1,4 @@
 -- The bracket that a solve's trials end on is sound. Assumes nothing.
-use Rattle.table.specs.declared.Entry.{Entry}
 use Rattle.std.specs.Prelude.{Err, Ok, Result}
 use Rattle.reason.specs.declared.Amiss.{Amiss}
 use Prim.Native.Nat.{ℕ}
@@ -9,7 +8,7 @@ use lib.Ieee.{Float}
 use Rattle.facts.proofs.Wholes.{zero_one}
 use Rattle.vector.specs.declared.Vector.{Vector}
 use Rattle.vector.specs.declared.State.{State}
-use Rattle.table.specs.Tests.{first_failing}
+use Rattle.table.specs.Tests.{Entry, first_failing}
 use Rattle.iterator.specs.Single.{sound_of}
 use Rattle.iterator.specs.declared.Bracket.{Bracket}
 use Rattle.iterator.specs.declared.Beginning.{Beginning}
@@ -21,7 +20,7 @@ use Rattle.problem.specs.Problems.{judge_of, stopped_of}
 use Rattle.problem.specs.declared.Problem.{Problem}
 use Rattle.problem.specs.declared.Problem.TheVariants.{Kepler, Lambert}
 use Rattle.problem.proofs.Told.{told}
-use Rattle.trials.specs.Ended.{begun_of, ended_from}
+use Rattle.trials.specs.Ended.{Ended, begun_of, ended_from}
 use Rattle.solve.specs.Ahead.{kepler_ahead, lambert_ahead}
 use Rattle.solve.specs.Ends.{motion_for, turns_for, kepler_ended, lambert_ended}
 use Rattle.trials.specs.declared.Ended.TheVariants as E
@@ -33,7 +32,7 @@ abbrev pub IsSound : Float → Bracket → Type 0
 IsSound asked b = sound_of asked b.lo b.hi b.below b.above ≡ true
 
 -- a sound bracket stays so
-gone-on : (problem : Problem) (asked : Float) (limit : ℕ) (s b : Bracket) → Sound asked s → E.At (stopped_of problem asked limit s) ≡ E.At b → IsSound asked b
+gone-on : (problem : Problem) (asked : Float) (limit : ℕ) (s b : Bracket) → Sound asked s → ◌≡◌ {A = Ended} (E.At (stopped_of problem asked limit s)) (E.At b) → IsSound asked b
 gone-on problem asked limit s b h e =
     let i : stopped_of problem asked limit s ≡ b = cc in
     sound-is (subst (Sound asked) i (to-sound (judge_of problem asked) asked (told problem asked) limit s h))

@@ -2,7 +2,6 @@
 -- trials end on stand on either side of the time asked for and the result is in range; the count is that of the rule's own trials,
 -- at most 2b. Assumes nothing.
 use Rattle.std.specs.Prelude.{Err, Ok, Result}
-use Rattle.table.specs.declared.Entry.{Entry}
 use Prim.Native.Nat.{ℕ, ◌≤◌}
 use mathlib.Core.Path.{◌≡◌, refl, sym, ap, ◌∙◌}
 use mathlib.Core.Bool.{Bool, true, false, cond, true≢false}
@@ -14,7 +13,7 @@ use Rattle.facts.proofs.Wholes.{zero_one}
 use Rattle.real.specs.F64.{◌≤ᶠ◌, ◌<ᶠ◌, size_of}
 use Rattle.vector.specs.declared.Vector.{Vector}
 use Rattle.vector.specs.declared.State.{State}
-use Rattle.table.specs.Tests.{first_failing}
+use Rattle.table.specs.Tests.{Entry, first_failing}
 use Rattle.conic.specs.declared.Point.{Point}
 use Rattle.reach.specs.declared.Reached.{Reached}
 use Rattle.reach.specs.declared.Reached.TheVariants as R

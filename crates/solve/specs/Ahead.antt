@@ -1,6 +1,6 @@
 -- The tests ahead of the trials, with the times that a bracket to go on from carries (T-14). Assumes nothing: these are definitions.
 use Rattle.std.specs.Prelude.{List, ◌++◌, Float}
-use Rattle.table.specs.declared.Entry.{Entry}
+use Rattle.table.specs.Tests.{Entry}
 use Rattle.vector.specs.declared.Vector.{Vector}
 use Rattle.vector.specs.declared.State.{State}
 use Rattle.kepler.specs.declared.Motion.{Motion}

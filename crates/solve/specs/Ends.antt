@@ -11,8 +11,7 @@ use Rattle.kepler.specs.Kepler.{turned_of, motion_of, fall_row, turns_of}
 use Rattle.lambert.specs.declared.Way.{Way}
 use Rattle.lambert.specs.Lambert.{transfer_of}
 use Rattle.problem.specs.declared.Problem.TheVariants.{Kepler, Lambert}
-use Rattle.trials.specs.declared.Ended.{Ended}
-use Rattle.trials.specs.Ended.{begun_of, ended_from}
+use Rattle.trials.specs.Ended.{Ended, begun_of, ended_from}
 use Rattle.solve.specs.Ahead.{kepler_ahead, lambert_ahead}
 
 -- a negative time is solved as its size with the velocity negated

@@ -1,5 +1,5 @@
 -- The computed time of a grid point, or none: it does not know the time asked for (01, 'Judging a trial'). Assumes nothing: these are definitions.
-use Rattle.table.specs.declared.Entry.{Entry}
+use Rattle.table.specs.Tests.{Entry}
 use Rattle.conic.specs.declared.Point.{Point}
 use Rattle.std.specs.Prelude.{cond, ℤ, Float, Err, Ok, Result}
 use Rattle.std.specs.Int.Signed.{lt_z}

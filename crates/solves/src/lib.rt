@@ -14,7 +14,7 @@ fn normal_at(line: &[u8], k: u32) -> Result<(Way, u32), u64>
     requires { k < 2 ^ 18 }
     ensures { ReadsNormal result k line.now }
 {
-    let [x, y, z] = forms::numbers::<3>(line, k)?;
+    let [x, y, z] = forms::numbers_as_array::<3>(line, k)?;
     Ok((Way::Normal(Vector { x, y, z }), k + 3))
 }
 
@@ -40,7 +40,7 @@ fn kepler(line: &[u8], k: u32) -> Result<Solve, u64>
     requires { k ≤ 65536 }
     ensures { Gives kepler_form result k line.now }
 {
-    let [mu, rx, ry, rz, vx, vy, vz, time] = forms::numbers::<8>(line, k)?;
+    let [mu, rx, ry, rz, vx, vy, vz, time] = forms::numbers_as_array::<8>(line, k)?;
     let (beginning, limit, version) = options::read(line, k + 8)?;
     Ok(Solve::Kepler {
         mu,
@@ -63,7 +63,7 @@ fn lambert(line: &[u8], k: u32) -> Result<Solve, u64>
     requires { k ≤ 65536 }
     ensures { Gives lambert_form result k line.now }
 {
-    let [mu, ax, ay, az, bx, by, bz, time] = forms::numbers::<8>(line, k)?;
+    let [mu, ax, ay, az, bx, by, bz, time] = forms::numbers_as_array::<8>(line, k)?;
     let (way, behind) = way_at(line, k + 8)?;
     let (beginning, limit, version) = options::read(line, behind)?;
     Ok(Solve::Lambert {
@@ -89,7 +89,7 @@ fn lambert(line: &[u8], k: u32) -> Result<Solve, u64>
 fn theta(line: &[u8], k: u32) -> Result<Solve, u64>
     ensures { Gives theta_form result k line.now }
 {
-    let [mu, rx, ry, rz, vx, vy, vz, sine, cosine] = forms::only_numbers::<9>(line, k)?;
+    let [mu, rx, ry, rz, vx, vy, vz, sine, cosine] = forms::only_numbers_as_array::<9>(line, k)?;
     Ok(Solve::Theta {
         mu,
         state: State {
@@ -108,7 +108,7 @@ fn theta(line: &[u8], k: u32) -> Result<Solve, u64>
 fn apsides(line: &[u8], k: u32) -> Result<Solve, u64>
     ensures { Gives apsides_form result k line.now }
 {
-    let [mu, rx, ry, rz, vx, vy, vz] = forms::only_numbers::<7>(line, k)?;
+    let [mu, rx, ry, rz, vx, vy, vz] = forms::only_numbers_as_array::<7>(line, k)?;
     Ok(Solve::Apsides {
         mu,
         state: State {

@@ -71,9 +71,10 @@ pub enum Limit {
     OneWithin(f64),
 }
 
+// One test that can fail: what it refuses with, what it looks at, and what that must be.
 #[derive(Clone, Copy)]
-pub struct Entry {
-    pub refusal: Refusal,
+pub struct Entry<R = Refusal> {
+    pub refusal: R,
     pub name: Name,
     pub part: Part,
     pub amount: f64,
@@ -100,13 +101,13 @@ impl Limit {
 
 // One test: the entry itself where the amount is not what it must be.
 #[tactic(auto, unfolding(crate::specs::Tests::told))]
-pub fn test(
-    refusal: Refusal,
+pub fn test<R: Copy>(
+    refusal: R,
     name: Name,
     part: Part,
     amount: f64,
     limit: Limit,
-) -> Result<(), Entry>
+) -> Result<(), Entry<R>>
     ensures { result ≡ Ok tt ▷ (entry refusal name part amount limit ∷ []) }
 {
     if limit.is_met_by(amount) {

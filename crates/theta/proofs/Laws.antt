@@ -16,9 +16,8 @@ use Rattle.vector.specs.Vectors.{position_of, velocity_of, dot_of, cross_of, len
 use Rattle.table.specs.declared.Name.TheVariants.{Position, Velocity, Sin, Cos}
 use Rattle.table.specs.declared.Part.TheVariants.{Length}
 use Rattle.table.specs.declared.Limit.TheVariants.{AtLeast, Under}
-use Rattle.table.specs.declared.Entry.{Entry}
 use Rattle.table.specs.Tests as Tests
-use Rattle.table.specs.Tests.{entry, first_failing, all_meet, first_row, table_order}
+use Rattle.table.specs.Tests.{Entry, entry, first_failing, all_meet, first_row, table_order}
 use Rattle.rows.specs.Rows.{finite_number, finite_inputs, mu_row, position_components, position_row, velocity_components, state_rows}
 use Rattle.table.proofs.Laws.{all_met_lem, meet-both, met-left, met-right, met-then, first_row_lem, row-then}
 use Rattle.rows.proofs.Components.{Finite, position-finite, velocity-finite}
@@ -30,10 +29,9 @@ use Rattle.reach.specs.Reach.{reach_of}
 use Rattle.reach.proofs.Times.{reach-in}
 use Rattle.theta.specs.declared.Sweep.{Sweep}
 use Rattle.theta.specs.declared.Timed.{Timed}
-use Rattle.theta.specs.declared.TransferTime.{TransferTime}
 use Rattle.theta.specs.declared.TransferTime.TheVariants.{Time}
 use Rattle.conic.specs.Conic.{straight_row}
-use Rattle.theta.specs.Theta.{sweep_of, input_rows, angle_row, derived_row, theta_tests, arc_of, transfer_time_by, answered, theta_of, transfer_time_number}
+use Rattle.theta.specs.Theta.{TransferTime, sweep_of, input_rows, angle_row, derived_row, theta_tests, arc_of, transfer_time_by, answered, theta_of, transfer_time_number}
 
 -- ---- the answer's number
 

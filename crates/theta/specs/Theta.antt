@@ -1,6 +1,6 @@
 -- Time-Theta: a state and an angle give a time, in the operations of f64 and in their order. Assumes nothing: these are definitions.
 use Rattle.std.specs.Prelude.{ℕ, List, [], ◌∷◌, ◌++◌, Float, Result, Ok, Err}
-use Rattle.refusal.specs.declared.Refusal.TheVariants as Refusal
+use Rattle.refusal.specs.declared.Refusal.{Refusal}
 use Rattle.refusal.specs.Refusals.{number_of}
 use Rattle.real.specs.F64.{◌⊕◌, ◌⊖◌, ◌⊗◌, ◌⊘◌, two^, two^-, f1}
 use Rattle.root.specs.Root.{root_of}
@@ -8,9 +8,8 @@ use Rattle.vector.specs.declared.State.{State}
 use Rattle.table.specs.declared.Name.TheVariants.{Position, Velocity, Sin, Cos, Excess, Versine, Cot}
 use Rattle.table.specs.declared.Part.TheVariants.{Whole}
 use Rattle.table.specs.declared.Limit.TheVariants.{AtLeast, SizeAtMost}
-use Rattle.table.specs.declared.Entry.{Entry}
 use Rattle.vector.specs.Vectors.{position_of, velocity_of, dot_of, cross_of, length_of}
-use Rattle.table.specs.Tests.{entry, first_failing}
+use Rattle.table.specs.Tests.{Entry, entry, first_failing}
 use Rattle.rows.specs.Rows.{finite_number, finite_inputs, state_rows}
 use Rattle.conic.specs.Conic.{c2_of, c2_row, p_row, p_n_of, straight_row}
 use Rattle.reach.specs.declared.Arc.{Arc}
@@ -18,7 +17,7 @@ use Rattle.reach.specs.declared.Reached.{Reached}
 use Rattle.reach.specs.declared.Reached.TheVariants as R
 use Rattle.reach.specs.Reach.{cothalf_of, cothalf_row, reach_of}
 use Rattle.theta.specs.declared.Sweep.{Sweep}
-use Rattle.theta.specs.declared.TransferTime.{TransferTime}
+use Rattle.theta.specs.declared.TransferTime.{TransferTime as TransferTimeOf}
 use Rattle.theta.specs.declared.TransferTime.TheVariants.{Time, TooLong, TooShort, Refused}
 
 -- cot = (r·v)/|r×v|, p_N = ((r×v)·(r×v)/mu)/r
@@ -65,6 +64,10 @@ arc_of mu d = record {
   alpha = f1 ⊖ d.c2;
   cothalf = d.cothalf;
 }
+
+-- whose refusal is a case of `Refusal`; TransferTimeOf R has a refusal of another type, as any number
+abbrev pub TransferTime : Type 0
+TransferTime = TransferTimeOf Refusal
 
 -- over is 7, too long; under is 8, too short
 unfoldable pub transfer_time_by : State → Reached → TransferTime

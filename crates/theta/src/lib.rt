@@ -29,13 +29,13 @@ pub struct Timed {
     pub state: State,
 }
 
-// A time, too long, too short, or refused with its number.
+// A time, too long, too short, or refused.
 #[derive(Clone, Copy)]
-pub enum TransferTime {
+pub enum TransferTime<R = Refusal> {
     Time(Timed),
     TooLong,
     TooShort,
-    Refused(Refusal),
+    Refused(R),
 }
 
 pub fn sweep_of(mu: f64, s: State, sin: f64, cos: f64) -> Sweep
@@ -81,19 +81,18 @@ fn angle_row(d: Sweep) -> Result<(), Entry>
 
 // Row 6: |c2| < 2^6, |cot γ| ≤ 2^5, p_N ≤ 2^4, then |sin/(1−cos)| ≤ 2^5.
 #[tactic(auto, using(table::proofs::Laws::told_fails, table::proofs::Laws::told_passes))]
-fn derived_row(d: Sweep) -> Result<(), Entry>
-    ensures { result ≡ Ok tt ▷ derived_row d }
+fn derived_row(t: Result<(), Entry>, d: Sweep) -> Result<(), Entry>
+    ensures { result ≡ t ▷ derived_row d }
 {
-    conic::c2_row(d.c2)?;
-    table::test(
+    conic::c2_row(t, d.c2)?;
+    let cot = table::test(
         Refusal::DerivedOutOfRange,
         Name::Cot,
         Part::Whole,
         d.cot,
         Limit::SizeAtMost(32.0),
-    )?;
-    conic::p_row(d.pn)?;
-    reach::cothalf_row(d.cothalf)
+    );
+    reach::cothalf_row(conic::p_row(cot, d.pn), d.cothalf)
 }
 
 // Rows 1 to 4, from r1 = |r|.
@@ -103,10 +102,10 @@ fn input_rows(mu: f64, s: State, sin: f64, cos: f64, r1: f64) -> Result<(), Entr
 {
     let r = s.position();
     let v = s.velocity();
-    rows::finite_inputs(mu, Name::Position, r, Name::Velocity, v)?;
-    rows::finite_number(Name::Sin, sin)?;
-    rows::finite_number(Name::Cos, cos)?;
-    rows::state_rows(mu, s, r1)
+    let inputs = rows::finite_inputs(mu, Name::Position, r, Name::Velocity, v);
+    let sine = rows::finite_number(inputs, Name::Sin, sin);
+    let cosine = rows::finite_number(sine, Name::Cos, cos);
+    rows::state_rows(cosine, mu, s, r1)
 }
 
 // Rows 1 to 4, 10, 6 and 19.
@@ -115,9 +114,8 @@ pub fn tests(mu: f64, s: State, sin: f64, cos: f64, d: Sweep) -> Result<(), Entr
     ensures { result ≡ first_failing (theta_tests mu s sin cos d) }
 {
     input_rows(mu, s, sin, cos, d.r1)?;
-    angle_row(d)?;
-    derived_row(d)?;
-    conic::straight_row(d.pn)
+    let angle = angle_row(d);
+    conic::straight_row(derived_row(angle, d), d.pn)
 }
 
 // What steps 4 to 7 are given.

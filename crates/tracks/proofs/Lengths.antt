@@ -24,9 +24,10 @@ use Rattle.lines.specs.Days.{local_of, day_of, cs_of}
 use Rattle.lines.specs.Lines.{clock_pieces, stamp_pieces, refused_pieces}
 use Rattle.lines.proofs.Sizes.{name-short}
 use Rattle.flight.specs.declared.Flight.{Flight}
-use Rattle.replay.specs.declared.Answer.{Answer}
+use Rattle.replay.specs.declared.Answer.{Answer as AnswerOf}
 use Rattle.replay.specs.declared.Answer.TheVariants as A
-use Rattle.tracks.specs.Tracks.{heading_pieces, answer_pieces, event_pieces, record_pieces, about_text, flight_pieces, where_pieces, vehicle_pieces}
+use Rattle.replay.specs.Replay.{Answer}
+use Rattle.tracks.specs.Tracks.{heading_pieces, answer_pieces_by, event_pieces_by, record_pieces_by, record_pieces, about_text, flight_pieces, where_pieces, vehicle_pieces}
 
 pub heading-fits : size heading_pieces ≤ 512
 unfolding concat heading_pieces
@@ -47,19 +48,22 @@ stamp-short t v k = simp (concat-append, length-append) (omega (arith, clock-sho
 off-short : (x : Float) → size (labelled_pieces (ascii " off") (x ∷ []) ++ end_pieces (x ∷ [])) ≤ 100
 off-short x = simp (concat-append, length-append) (omega (arith, labelled-short (ascii " off") (x ∷ []), end_short (x ∷ [])))
 
-answer-short : (a : Answer) → size (answer_pieces a) ≤ 100
-unfolding concat answer_pieces
-answer-short A.Set = lit≤ tt
-answer-short A.Done = lit≤ tt
-answer-short (A.Off x) = off-short x
-answer-short (A.Refused n) = simp length-append (omega (arith, at_most 20 (number_of n)))
+answer-short : {R : Type 0} (number : R → ℕ) (a : AnswerOf R) → size (answer_pieces_by number a) ≤ 100
+unfolding concat answer_pieces_by
+answer-short number A.Set = lit≤ tt
+answer-short number A.Done = lit≤ tt
+answer-short number (A.Off x) = off-short x
+answer-short number (A.Refused n) = simp length-append (omega (arith, at_most 20 (number n)))
 
-event-short : (t : ℤ) (v : ℕ) (k : Kind) (a : Answer) → size (event_pieces t v k a) ≤ 512
-unfolding event_pieces
-event-short t v k a = simp (concat-append, length-append) (omega (arith, stamp-short t v k, answer-short a))
+event-short : {R : Type 0} (number : R → ℕ) (t : ℤ) (v : ℕ) (k : Kind) (a : AnswerOf R) → size (event_pieces_by number t v k a) ≤ 512
+unfolding event_pieces_by
+event-short number t v k a = simp (concat-append, length-append) (omega (arith, stamp-short t v k, answer-short number a))
+
+pub record-by-fits : {R : Type 0} (number : R → ℕ) (o : ℤ) (r : Record) (a : AnswerOf R) → size (record_pieces_by number o r a) ≤ 512
+record-by-fits number o r a = event-short number (local_of (time_in r) o) (vehicle_in r) (kind_in r) a
 
 pub record-fits : (o : ℤ) (r : Record) (a : Answer) → size (record_pieces o r a) ≤ 512
-record-fits o r a = event-short (local_of (time_in r) o) (vehicle_in r) (kind_in r) a
+record-fits o r a = record-by-fits number_of o r a
 
 about-short : (b : ℕ) → length (about_text b) ≤ 10
 unfolding about_text

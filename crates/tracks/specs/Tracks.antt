@@ -9,26 +9,36 @@ use Rattle.session.specs.Layout.{kind_in, vehicle_in, time_in}
 use Rattle.lines.specs.Days.{local_of}
 use Rattle.lines.specs.Lines.{stamp_pieces}
 use Rattle.flight.specs.declared.Flight.{Flight}
-use Rattle.replay.specs.declared.Answer.{Answer}
+use Rattle.replay.specs.declared.Answer.{Answer as AnswerOf}
 use Rattle.replay.specs.declared.Answer.TheVariants as A
+use Rattle.replay.specs.Replay.{Answer}
 
 unfoldable pub heading_pieces : List (List ℕ)
 heading_pieces = ascii "day cs vehicle kind result\n" ∷ []
 
--- ` set`, ` done`, ` off D bits X`, ` refused N`
-unfoldable pub answer_pieces : Answer → List (List ℕ)
-answer_pieces A.Set = ascii " set\n" ∷ []
-answer_pieces A.Done = ascii " done\n" ∷ []
-answer_pieces (A.Off x) = labelled_pieces (ascii " off") (x ∷ []) ++ end_pieces (x ∷ [])
-answer_pieces (A.Refused n) = ascii " refused " ∷ decimal (number_of n) ∷ ascii "\n" ∷ []
+-- ` set`, ` done`, ` off D bits X`, ` refused N`, whatever the refusal is, by the number of that
+unfoldable pub answer_pieces_by : {R : Type 0} → (R → ℕ) → AnswerOf R → List (List ℕ)
+answer_pieces_by number A.Set = ascii " set\n" ∷ []
+answer_pieces_by number A.Done = ascii " done\n" ∷ []
+answer_pieces_by number (A.Off x) = labelled_pieces (ascii " off") (x ∷ []) ++ end_pieces (x ∷ [])
+answer_pieces_by number (A.Refused n) = ascii " refused " ∷ decimal (number n) ∷ ascii "\n" ∷ []
 
 -- `DAY CS VEHICLE KIND RESULT`
-unfoldable pub event_pieces : ℤ → ℕ → Kind → Answer → List (List ℕ)
-event_pieces t v k a = stamp_pieces t v k ++ answer_pieces a
+unfoldable pub event_pieces_by : {R : Type 0} → (R → ℕ) → ℤ → ℕ → Kind → AnswerOf R → List (List ℕ)
+event_pieces_by number t v k a = stamp_pieces t v k ++ answer_pieces_by number a
 
 -- the time is shown by the local clock
+abbrev pub record_pieces_by : {R : Type 0} → (R → ℕ) → ℤ → Record → AnswerOf R → List (List ℕ)
+record_pieces_by number o r a = event_pieces_by number (local_of (time_in r) o) (vehicle_in r) (kind_in r) a
+
+abbrev pub answer_pieces : Answer → List (List ℕ)
+answer_pieces a = answer_pieces_by number_of a
+
+abbrev pub event_pieces : ℤ → ℕ → Kind → Answer → List (List ℕ)
+event_pieces t v k a = event_pieces_by number_of t v k a
+
 abbrev pub record_pieces : ℤ → Record → Answer → List (List ℕ)
-record_pieces o r a = event_pieces (local_of (time_in r) o) (vehicle_in r) (kind_in r) a
+record_pieces o r a = record_pieces_by number_of o r a
 
 -- ` earth at `, ` moon at `
 unfoldable pub about_text : ℕ → List ℕ

@@ -5,9 +5,10 @@
 ghost use Rattle.text.specs.Text.{Put};
 ghost use Rattle.text.specs.Pieces.{Laid};
 ghost use Rattle.lines.specs.Days.{local_of};
-ghost use Rattle.tracks.specs.Tracks.{heading_pieces, answer_pieces, event_pieces, record_pieces, about_text, flight_pieces, vehicle_pieces};
+ghost use Rattle.tracks.specs.Tracks.{heading_pieces, answer_pieces_by, event_pieces_by, record_pieces_by, about_text, flight_pieces, vehicle_pieces};
 
 use flight::Flight;
+use refusal::Numbered;
 use replay::Answer;
 use session::{Kind, Record};
 
@@ -17,8 +18,8 @@ pub fn heading(buf: &mut [u8]) -> usize
     text::bytes(buf, 0, b"day cs vehicle kind result\n")
 }
 
-fn answer(buf: &mut [u8], at: usize, x: Answer) -> usize
-    ensures { Laid buf.old at (answer_pieces x) buf.new result }
+fn answer<R: Numbered>(buf: &mut [u8], at: usize, x: Answer<R>) -> usize
+    ensures { Laid buf.old at (answer_pieces_by R.its_number x) buf.new result }
 {
     match x {
         Answer::Set => text::bytes(buf, at, b" set\n"),
@@ -30,22 +31,29 @@ fn answer(buf: &mut [u8], at: usize, x: Answer) -> usize
         }
         Answer::Refused(refusal) => {
             let a = text::bytes(buf, at, b" refused ");
-            let b = text::number(buf, a, refusal.number() as u64);
+            let b = text::number(buf, a, refusal.to_number() as u64);
             text::byte(buf, b, b'\n')
         }
     }
 }
 
-fn event(buf: &mut [u8], time: i64, offset: i16, vehicle: u8, k: Kind, x: Answer) -> usize
-    ensures { Laid buf.old 0 (event_pieces (local_of time offset) vehicle k x) buf.new result }
+fn event<R: Numbered>(
+    buf: &mut [u8],
+    time: i64,
+    offset: i16,
+    vehicle: u8,
+    k: Kind,
+    x: Answer<R>,
+) -> usize
+    ensures { Laid buf.old 0 (event_pieces_by R.its_number (local_of time offset) vehicle k x) buf.new result }
 {
     let a = lines::stamp(buf, time, offset, vehicle, k);
     answer(buf, a, x)
 }
 
 // A record by the local clock, and what it came to.
-pub fn record(buf: &mut [u8], r: Record, offset: i16, x: Answer) -> usize
-    ensures { Laid buf.old 0 (record_pieces offset r x) buf.new result }
+pub fn record<R: Numbered>(buf: &mut [u8], r: Record, offset: i16, x: Answer<R>) -> usize
+    ensures { Laid buf.old 0 (record_pieces_by R.its_number offset r x) buf.new result }
 {
     match r {
         Record::State(y) => event(buf, y.time, offset, y.vehicle, Kind::State, x),

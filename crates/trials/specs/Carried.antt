@@ -2,7 +2,7 @@
 use Rattle.std.specs.Prelude.{List, [], ◌++◌}
 use Rattle.table.specs.declared.Name.{Name}
 use Rattle.table.specs.declared.Name.TheVariants.{Lo, Hi}
-use Rattle.table.specs.declared.Entry.{Entry}
+use Rattle.table.specs.Tests.{Entry}
 use Rattle.rows.specs.Rows.{finite_number}
 use Rattle.iterator.specs.declared.Judgement.{Judgement}
 use Rattle.iterator.specs.declared.Judgement.TheVariants.{Low, High, Under, Over}

@@ -3,7 +3,7 @@
 #![tactic(auto)]
 
 ghost use Rattle.std.specs.Prelude.{◌≡◌, true, ◌+◌, ◌<◌, ◌^◌};
-ghost use Rattle.table.specs.Tests.{◌▷◌};
+ghost use Rattle.table.specs.Tests.{◌▷◌, entries_by};
 ghost use Rattle.iterator.specs.Rule.{Grid, width_of};
 ghost use Rattle.iterator.specs.Single.{in_grid, is_below, is_above};
 ghost use Rattle.iterator.specs.Run.{next_point, narrowed, run_to};
@@ -15,13 +15,14 @@ ghost use Rattle.trials.specs.Ended.{begun_of, ended_from};
 use iterator::{Beginning, Bracket, Judgement};
 use problem::Problem;
 use reason::Amiss;
+use refusal::{Numbered, Refusal};
 use table::{Entry, Name};
 
 // Where the trials ended: at neighbours, or at the limit. Or what ended the solve ahead of them: a test that fails, or
 // what is amiss with the bracket to go on from.
 #[derive(Clone, Copy)]
-pub enum Ended {
-    Refused(Entry),
+pub enum Ended<R = Refusal> {
+    Refused(Entry<R>),
     Wrong(Amiss),
     At(Bracket),
 }
@@ -160,29 +161,32 @@ fn iterate(problem: Problem, asked: f64, limit: u64, start: Bracket) -> Bracket
 
 // Row 1 of the time that a judgement carries.
 #[tactic(auto, using(table::proofs::Laws::told_fails, table::proofs::Laws::told_passes))]
-fn time_input(name: Name, j: Judgement) -> Result<(), Entry>
-    ensures { result ≡ Ok tt ▷ time_input name j }
+fn time_input<R: Numbered>(
+    t: Result<(), Entry<R>>,
+    name: Name,
+    j: Judgement,
+) -> Result<(), Entry<R>>
+    ensures { result ≡ t ▷ entries_by R.given_as (time_input name j) }
 {
     match j {
-        Judgement::Low(x) => rows::finite_number(name, x),
-        Judgement::High(x) => rows::finite_number(name, x),
-        Judgement::Under => Ok(()),
-        Judgement::Over => Ok(()),
+        Judgement::Low(x) => rows::finite_number(t, name, x),
+        Judgement::High(x) => rows::finite_number(t, name, x),
+        Judgement::Under => t,
+        Judgement::Over => t,
     }
 }
 
 // Of both that a stopped bracket carries.
 #[tactic(auto, using(table::proofs::Laws::told_fails, table::proofs::Laws::told_passes))]
-pub fn times_input(g: Beginning) -> Result<(), Entry>
-    ensures { result ≡ Ok tt ▷ times_input g }
+pub fn times_input<R: Numbered>(t: Result<(), Entry<R>>, g: Beginning) -> Result<(), Entry<R>>
+    ensures { result ≡ t ▷ entries_by R.given_as (times_input g) }
 {
     let Beginning::Stopped(b) = g else {
-        return Ok(());
+        return t;
     };
     let below = b.below;
     let above = b.above;
-    time_input(Name::Lo, below)?;
-    time_input(Name::Hi, above)
+    time_input(time_input(t, Name::Lo, below), Name::Hi, above)
 }
 
 #[tactic(auto, unfolding(crate::specs::Ended::begun_of, crate::specs::Ended::begun_by))]
@@ -200,14 +204,14 @@ fn begin(problem: Problem, asked: f64, g: Beginning) -> Result<Bracket, Amiss>
 
 // The tests ahead of the trials, row 6 of a bracket to go on from, the tests behind it, and then the trials.
 #[tactic(auto, unfolding(crate::specs::Ended::ended_from))]
-pub fn ended_from(
-    ahead: Result<(), Entry>,
+pub fn ended_from<R: Numbered>(
+    ahead: Result<(), Entry<R>>,
     problem: Problem,
     asked: f64,
     limit: u64,
     g: Beginning,
-    behind: Result<(), Entry>,
-) -> Ended
+    behind: Result<(), Entry<R>>,
+) -> Ended<R>
     ensures { result ≡ ended_from ahead (begun_of problem asked g) behind problem asked limit }
 {
     if let Err(e) = ahead {

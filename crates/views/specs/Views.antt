@@ -22,10 +22,17 @@ points_pieces p =
     ++ (labelled_pieces (ascii " second") (s.x ∷ s.y ∷ s.z ∷ [])
     ++ end_pieces (p.larger ∷ p.smaller ∷ f.x ∷ f.y ∷ f.z ∷ s.x ∷ s.y ∷ s.z ∷ [])))
 
+-- an answer, whatever its refusal is, by the number of that
+abbrev pub wheel_pieces_by : {R : Type 0} → (R → ℕ) → Result Direction R → List (List ℕ)
+wheel_pieces_by number (Ok d) = direction_pieces d
+wheel_pieces_by number (Err n) = refused_pieces (number n)
+
+abbrev pub sight_pieces_by : {R : Type 0} → (R → ℕ) → Result Points R → List (List ℕ)
+sight_pieces_by number (Ok p) = points_pieces p
+sight_pieces_by number (Err n) = refused_pieces (number n)
+
 abbrev pub wheel_pieces : Result Direction Refusal → List (List ℕ)
-wheel_pieces (Ok d) = direction_pieces d
-wheel_pieces (Err n) = refused_pieces (number_of n)
+wheel_pieces a = wheel_pieces_by number_of a
 
 abbrev pub sight_pieces : Result Points Refusal → List (List ℕ)
-sight_pieces (Ok p) = points_pieces p
-sight_pieces (Err n) = refused_pieces (number_of n)
+sight_pieces a = sight_pieces_by number_of a

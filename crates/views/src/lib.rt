@@ -3,9 +3,9 @@
 #![tactic(auto)]
 
 ghost use Rattle.text.specs.Pieces.{Laid};
-ghost use Rattle.views.specs.Views.{direction_pieces, points_pieces, wheel_pieces, sight_pieces};
+ghost use Rattle.views.specs.Views.{direction_pieces, points_pieces, wheel_pieces_by, sight_pieces_by};
 
-use refusal::Refusal;
+use refusal::Numbered;
 use sight::Points;
 use wheel::Direction;
 
@@ -36,8 +36,8 @@ fn points(buf: &mut [u8], p: Points) -> usize
 }
 
 // The thumbwheel's.
-pub fn tell_wheel(buf: &mut [u8], a: Result<Direction, Refusal>) -> usize
-    ensures { Laid buf.old 0 (wheel_pieces a) buf.new result }
+pub fn tell_wheel<R: Numbered>(buf: &mut [u8], a: Result<Direction, R>) -> usize
+    ensures { Laid buf.old 0 (wheel_pieces_by R.its_number a) buf.new result }
 {
     match a {
         Ok(d) => direction(buf, d),
@@ -46,8 +46,8 @@ pub fn tell_wheel(buf: &mut [u8], a: Result<Direction, Refusal>) -> usize
 }
 
 // The sight line's.
-pub fn tell_sight(buf: &mut [u8], a: Result<Points, Refusal>) -> usize
-    ensures { Laid buf.old 0 (sight_pieces a) buf.new result }
+pub fn tell_sight<R: Numbered>(buf: &mut [u8], a: Result<Points, R>) -> usize
+    ensures { Laid buf.old 0 (sight_pieces_by R.its_number a) buf.new result }
 {
     match a {
         Ok(p) => points(buf, p),

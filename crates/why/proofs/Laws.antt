@@ -1,6 +1,5 @@
 -- Why and the solve cannot disagree: the reason's number is that of the solve's own answer, for every input. Assumes nothing.
 use Rattle.std.specs.Prelude.{Err, Ok, Result}
-use Rattle.table.specs.declared.Entry.{Entry}
 use Prim.Native.Nat.{ℕ}
 use mathlib.Core.Path.{◌≡◌, refl, sym, ◌∙◌}
 use mathlib.Core.Bool.{Bool, true, false, cond}
@@ -8,7 +7,7 @@ use lib.Ieee.{Float}
 use Rattle.real.specs.F64.{size_of}
 use Rattle.vector.specs.declared.Vector.{Vector}
 use Rattle.vector.specs.declared.State.{State}
-use Rattle.table.specs.Tests.{first_failing, test_number}
+use Rattle.table.specs.Tests.{Entry, first_failing, test_number}
 use Rattle.iterator.specs.Run.{more}
 use Rattle.iterator.specs.declared.Judgement.{Judgement}
 use Rattle.iterator.specs.declared.Judgement.TheVariants.{Low, High, Under, Over}
@@ -28,7 +27,7 @@ use Rattle.apsides.proofs.Laws.{answered-number}
 use Rattle.problem.specs.declared.Problem.TheVariants.{Kepler, Lambert}
 use Rattle.solve.specs.Ends.{motion_for, kepler_ended, lambert_ended}
 use Rattle.solve.specs.Answers.{advanced_end, advance_to, transferred_end, transfer_velocity_to, advanced_number, transferred_number}
-use Rattle.trials.specs.declared.Ended.{Ended}
+use Rattle.trials.specs.Ended.{Ended}
 use Rattle.trials.specs.declared.Ended.TheVariants as E
 use Rattle.solve.proofs.Halts.{arrival_number, end_number, advance-halts, transfer-halts}
 use Rattle.reason.specs.declared.Neighbours.{Neighbours}

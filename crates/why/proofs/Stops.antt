@@ -1,7 +1,6 @@
 -- The range test that stops a trial is true: it fails, and its number is the one that over and under give. A neighbour without a time
 -- is told to be the grid's own end exactly if it is. Assumes nothing.
 use Rattle.std.specs.Prelude.{Err, Ok, Result}
-use Rattle.refusal.specs.declared.Refusal.TheVariants as Refusal
 use Rattle.series.specs.declared.Pair.{Pair}
 use Rattle.conic.specs.declared.Point.{Point}
 use Rattle.refusal.specs.declared.Refusal.{Refusal}
@@ -23,8 +22,7 @@ use Rattle.table.specs.declared.Name.{Name}
 use Rattle.table.specs.declared.Name.TheVariants.{Xi, TrialTime, Den, P}
 use Rattle.table.specs.declared.Limit.{Limit}
 use Rattle.table.specs.declared.Limit.TheVariants as L
-use Rattle.table.specs.declared.Entry.{Entry}
-use Rattle.table.specs.Tests.{meets}
+use Rattle.table.specs.Tests.{Entry, meets}
 use Rattle.conic.specs.declared.Orbit.{Orbit}
 use Rattle.conic.specs.Conic.{grid_of, range_test, outside_of, trial_of, point_at}
 use Rattle.iterator.specs.declared.Judgement.{Judgement}

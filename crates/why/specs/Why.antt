@@ -1,9 +1,8 @@
 -- Why a solve refuses, or that it does not (T-07), from the solve's own tests and trials. Assumes nothing: these are definitions.
-use Rattle.table.specs.declared.Entry.{Entry}
 use Rattle.std.specs.Prelude.{ℕ, cond, Float, Err, Ok, Result}
 use Rattle.vector.specs.declared.Vector.{Vector}
 use Rattle.vector.specs.declared.State.{State}
-use Rattle.table.specs.Tests.{first_failing}
+use Rattle.table.specs.Tests.{Entry, first_failing}
 use Rattle.iterator.specs.Run.{more}
 use Rattle.iterator.specs.declared.Judgement.{Judgement}
 use Rattle.iterator.specs.declared.Judgement.TheVariants.{Low, High, Under, Over}
@@ -18,10 +17,10 @@ use Rattle.problem.specs.Stops.{stop_of}
 use Rattle.problem.specs.declared.Problem.{Problem}
 use Rattle.problem.specs.declared.Problem.TheVariants.{Kepler, Lambert}
 use Rattle.solve.specs.Ends.{motion_for, kepler_ended, lambert_ended}
-use Rattle.trials.specs.declared.Ended.{Ended}
+use Rattle.trials.specs.Ended.{Ended}
 use Rattle.trials.specs.declared.Ended.TheVariants as E
 use Rattle.reason.specs.declared.Neighbours.{Neighbours}
-use Rattle.reason.specs.declared.Reason.{Reason}
+use Rattle.reason.specs.Reasons.{Reason}
 use Rattle.reason.specs.declared.Reason.TheVariants as R
 
 -- 8 where the lower neighbour has no time, and what stopped it; Kepler's always has one, and the solve's number there is 7

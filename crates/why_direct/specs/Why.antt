@@ -1,15 +1,14 @@
 -- Why a transfer time, or the apsides, are refused, or that they are not (T-07), from their own tests. Assumes nothing: these are definitions.
-use Rattle.table.specs.declared.Entry.{Entry}
 use Rattle.std.specs.Prelude.{Float, Result, Ok, Err}
 use Rattle.vector.specs.declared.State.{State}
-use Rattle.table.specs.Tests.{first_failing}
+use Rattle.table.specs.Tests.{Entry, first_failing}
 use Rattle.reach.specs.declared.Reached.{Reached}
 use Rattle.reach.specs.declared.Reached.TheVariants as H
 use Rattle.reach.specs.Reach.{reach_of}
 use Rattle.theta.specs.declared.Sweep.{Sweep}
 use Rattle.theta.specs.Theta.{sweep_of, theta_tests, arc_of}
 use Rattle.apsides.specs.Apsides.{shape_of, apsides_tests}
-use Rattle.reason.specs.declared.Reason.{Reason}
+use Rattle.reason.specs.Reasons.{Reason}
 use Rattle.reason.specs.declared.Reason.TheVariants as R
 
 -- for a transfer time the range test alone

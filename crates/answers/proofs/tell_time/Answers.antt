@@ -4,12 +4,8 @@ use Rattle.answers.proofs.tell_time.Goals as goal
 
 pub returns-in-TooLong : goal.returns-in-TooLong
 unfolding transfer_time_number
-returns-in-TooLong c = rw c.in-TooLong.is c.refused.ensures
+returns-in-TooLong g c = rw c.in-TooLong.is c.refused.ensures
 
 pub returns-in-TooShort : goal.returns-in-TooShort
 unfolding transfer_time_number
-returns-in-TooShort c = rw c.in-TooShort.is c.refused-in-TooShort.ensures
-
-pub returns-in-Refused : goal.returns-in-Refused
-unfolding transfer_time_number
-returns-in-Refused c = rw c.in-Refused.is c.refused-in-Refused.ensures
+returns-in-TooShort g c = rw c.in-TooShort.is c.refused-in-TooShort.ensures

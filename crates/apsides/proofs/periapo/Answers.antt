@@ -1,9 +1,8 @@
 -- `apsides::periapo` meets its contract. Assumes nothing.
-use Rattle.table.specs.declared.Entry.{Entry}
 use Rattle.std.specs.Prelude.{Result}
 use Rattle.apsides.specs.Apsides.{apsides_tests}
 use Rattle.apsides.specs.declared.Shape.{Shape}
-use Rattle.table.specs.Tests.{first_failing}
+use Rattle.table.specs.Tests.{Entry, first_failing}
 use mathlib.Core.Path.{sym, ap, ◌∙◌}
 use Rattle.apsides.specs.Apsides.{answered}
 use Rattle.apsides.proofs.periapo.Goals as goal

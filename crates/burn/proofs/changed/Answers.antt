@@ -2,8 +2,7 @@
 use mathlib.Core.Path.{ap, ◌∙◌}
 use Rattle.vector.specs.declared.Vector.{Vector}
 use Rattle.vector.specs.Vectors.{position_of, state_of, difference_of}
-use Rattle.apsides.specs.declared.Apsides.{Apsides}
-use Rattle.apsides.specs.Apsides.{apsides_of}
+use Rattle.apsides.specs.Apsides.{Apsides, apsides_of}
 use Rattle.burn.specs.Burn.{cleared_of, changed_of}
 use Rattle.burn.proofs.changed.Goals as goal
 

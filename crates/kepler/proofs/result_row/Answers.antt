@@ -1,6 +1,5 @@
 -- `kepler::result_row`: the chain of tests gives the first that fails. Assumes nothing.
-use Rattle.std.proofs.Common.{◌≡◌, ◌∙◌, arith, Result, Ok}
-use Rattle.table.specs.declared.Entry.{Entry}
+use Rattle.std.proofs.Common.{◌≡◌, ◌∙◌, arith, Ok}
 use Rattle.table.specs.Tests.{◌▷◌}
 use Rattle.table.proofs.Laws.{first_failing_lem, told_fails, told_passes}
 use Rattle.kepler.specs.Kepler.{result_row}

@@ -6,4 +6,4 @@ use Rattle.limits.proofs.failed.Goals as goal
 
 pub returns : goal.returns
 unfolding failed_pieces
-returns c = and_then c.name-a.ensures (and_then c.amount-b.ensures (and_then c.limit-c.ensures (then c.bytes-d.ensures (one c.exact.ensures))))
+returns g c = and_then c.name-a.ensures (and_then c.amount-b.ensures (and_then c.limit-c.ensures (then c.bytes-d.ensures (one c.exact.ensures))))

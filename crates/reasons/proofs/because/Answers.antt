@@ -6,4 +6,4 @@ use Rattle.reasons.proofs.because.Goals as goal
 
 pub returns : goal.returns
 unfolding because_pieces
-returns c = then c.bytes-a.ensures (and_then c.stop-b.ensures (one c.byte.ensures))
+returns g c = then c.bytes-a.ensures (and_then c.stop-b.ensures (one c.byte.ensures))

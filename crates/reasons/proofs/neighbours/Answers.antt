@@ -8,7 +8,7 @@ use Rattle.reasons.proofs.neighbours.Goals as goal
 
 pub returns : goal.returns
 unfolding neighbour_pieces
-returns c =
+returns g c =
     let a = c.args in
     let l = to_z-of_z {w = w64} {z = a.b.lo} (record { sfits = c.struct_told-1.given.0.1 }) in
     let h = to_z-of_z {w = w64} {z = a.b.hi} (record { sfits = c.struct_told-2-1.given.1.0.1 }) in

@@ -3,4 +3,4 @@ use Rattle.text.proofs.Lays.{one}
 use Rattle.reasons.proofs.stop.Goals as goal
 
 pub returns-in-EndOfGrid : goal.returns-in-EndOfGrid
-returns-in-EndOfGrid c = rw c.in-EndOfGrid.is (one c.bytes.ensures)
+returns-in-EndOfGrid g c = rw c.in-EndOfGrid.is (one c.bytes.ensures)

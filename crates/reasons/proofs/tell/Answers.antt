@@ -3,4 +3,4 @@ use Rattle.text.proofs.Lays.{one}
 use Rattle.reasons.proofs.tell.Goals as goal
 
 pub returns-in-Solved : goal.returns-in-Solved
-returns-in-Solved c = rw c.in-Solved.is (one c.bytes.ensures)
+returns-in-Solved g c = rw c.in-Solved.is (one c.bytes.ensures)

@@ -2,8 +2,7 @@
 use Rattle.std.specs.Prelude.{Err, Ok, Result}
 use Rattle.refusal.specs.declared.Refusal.{Refusal}
 use Rattle.std.proofs.Common.{◌≡◌, ℕ, sym, ap, ◌∙◌, refl, arith}
-use Rattle.table.specs.declared.Entry.{Entry}
-use Rattle.table.specs.Tests.{told, ◌▷◌}
+use Rattle.table.specs.Tests.{Entry, told, ◌▷◌}
 use Rattle.wheel.specs.declared.Direction.{Direction}
 use Rattle.wheel.specs.Wheel.{direction_of}
 use Rattle.sight.specs.declared.Line.{Line}

@@ -9,7 +9,7 @@ use Rattle.kepler.specs.Kepler.{turned_of, motion_of, turns_of}
 use Rattle.solve.specs.Ends.{motion_for, turns_for}
 use Rattle.solve.specs.Answers.{concluded_of, advanced_as, advanced_end}
 use Rattle.solve.specs.declared.Outcome.{Outcome}
-use Rattle.trials.specs.declared.Ended.{Ended}
+use Rattle.trials.specs.Ended.{Ended}
 use Rattle.solve.proofs.Sounds.{kepler-sound}
 use Rattle.solve.proofs.advance_limited.Goals as goal
 

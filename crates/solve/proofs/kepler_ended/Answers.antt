@@ -1,18 +1,16 @@
 -- `solve::kepler_ended` meets its contract: the tests ahead and the fall are those of the advance's own numbers. Assumes nothing.
-use Rattle.table.specs.declared.Entry.{Entry}
 use Rattle.std.specs.Prelude.{Result}
 use Prim.Native.Nat.{ℕ}
 use mathlib.Core.Path.{ap, ◌∙◌}
 use lib.Ieee.{Float}
 use Rattle.vector.specs.declared.State.{State}
-use Rattle.table.specs.Tests.{first_failing}
+use Rattle.table.specs.Tests.{Entry, first_failing}
 use Rattle.table.proofs.Laws.{first_failing_lem}
 use Rattle.iterator.specs.declared.Beginning.{Beginning}
 use Rattle.kepler.specs.declared.Motion.{Motion}
 use Rattle.kepler.specs.Kepler.{fall_row}
 use Rattle.problem.specs.declared.Problem.TheVariants.{Kepler}
-use Rattle.trials.specs.declared.Ended.{Ended}
-use Rattle.trials.specs.Ended.{begun_of, ended_from}
+use Rattle.trials.specs.Ended.{Ended, begun_of, ended_from}
 use Rattle.solve.specs.Ahead.{kepler_ahead}
 use Rattle.solve.specs.Ends.{motion_for}
 use Rattle.solve.proofs.kepler_ended.Goals as goal

@@ -1,8 +1,7 @@
 -- `solve::lambert_ended` meets its contract: the tests ahead are those of the transfer's own numbers, and none stands behind. Assumes nothing.
-use Rattle.table.specs.declared.Entry.{Entry}
 use Rattle.std.specs.Prelude.{Result, Ok}
 use mathlib.Core.Path.{ap, ◌∙◌}
-use Rattle.table.specs.Tests.{first_failing}
+use Rattle.table.specs.Tests.{Entry, first_failing}
 use Rattle.lambert.specs.declared.Transfer.{Transfer}
 use Rattle.problem.specs.declared.Problem.TheVariants.{Lambert}
 use Rattle.trials.specs.Ended.{begun_of, ended_from}

@@ -4,7 +4,7 @@ use Rattle.lambert.specs.declared.Transfer.{Transfer}
 use Rattle.lambert.specs.Lambert.{transfer_of}
 use Rattle.solve.specs.Answers.{concluded_of, transferred_as, transferred_end}
 use Rattle.solve.specs.declared.Outcome.{Outcome}
-use Rattle.trials.specs.declared.Ended.{Ended}
+use Rattle.trials.specs.Ended.{Ended}
 use Rattle.solve.proofs.Sounds.{lambert-sound}
 use Rattle.solve.proofs.transfer_velocity_limited.Goals as goal
 

@@ -1,6 +1,5 @@
 -- `theta::tests`: the chain of tests gives the first that fails. Assumes nothing.
-use Rattle.std.proofs.Common.{◌≡◌, ◌∙◌, arith, Result, Ok}
-use Rattle.table.specs.declared.Entry.{Entry}
+use Rattle.std.proofs.Common.{◌≡◌, ◌∙◌, arith, Ok}
 use Rattle.table.specs.Tests.{◌▷◌}
 use Rattle.table.proofs.Laws.{first_failing_lem, told_fails, told_passes}
 use Rattle.theta.specs.Theta.{theta_tests}
@@ -10,18 +9,6 @@ pub returns-in_err-input_rows : goal.returns-in_err-input_rows
 returns-in_err-input_rows c =
     let a = c.args in
     let h : c.from_residual.result ≡ Ok tt ▷ theta_tests a.mu a.s a.sin a.cos a.d = grind (arith, told_fails, told_passes) in
-    h ∙ first_failing_lem (theta_tests a.mu a.s a.sin a.cos a.d)
-
-pub returns-in_err-angle_row : goal.returns-in_err-angle_row
-returns-in_err-angle_row c =
-    let a = c.args in
-    let h : c.from_residual-in_err-angle_row.result ≡ Ok tt ▷ theta_tests a.mu a.s a.sin a.cos a.d = grind (arith, told_fails, told_passes) in
-    h ∙ first_failing_lem (theta_tests a.mu a.s a.sin a.cos a.d)
-
-pub returns-in_err-derived_row : goal.returns-in_err-derived_row
-returns-in_err-derived_row c =
-    let a = c.args in
-    let h : c.from_residual-in_err-derived_row.result ≡ Ok tt ▷ theta_tests a.mu a.s a.sin a.cos a.d = grind (arith, told_fails, told_passes) in
     h ∙ first_failing_lem (theta_tests a.mu a.s a.sin a.cos a.d)
 
 pub returns : goal.returns

@@ -1,5 +1,5 @@
 -- `theta::time_theta` meets its contract. Assumes nothing.
-use Rattle.table.specs.declared.Entry.{Entry}
+use Rattle.table.specs.Tests.{Entry}
 use Rattle.std.specs.Prelude.{Result}
 use mathlib.Core.Path.{◌≡◌, sym, ap, ◌∙◌}
 use Rattle.theta.specs.Theta.{transfer_time_by, arc_of, answered, theta_from}

@@ -18,7 +18,7 @@ use Rattle.iterator.specs.contracts.Judgement.{the_type}
 use Rattle.iterator.proofs.Grids.{ends-back}
 use Rattle.problem.specs.Stops.{stop_of}
 use Rattle.problem.specs.declared.Problem.{Problem}
-use Rattle.reason.specs.declared.Stop.{Stop}
+use Rattle.reason.specs.Reasons.{Stop}
 use Rattle.reason.specs.declared.Reason.TheVariants as R
 use Rattle.why.specs.Why.{short_by, long_by, told_by, told_of}
 use borrow.Enum.Refused.{opened}

@@ -5,4 +5,4 @@ use Rattle.forms.proofs.Rows.{Got}
 use Rattle.forms.proofs.parts.numbers.Given as goal
 
 abbrev pub invariant-loop-i : goal.invariant-loop-i
-invariant-loop-i g l = (length l.x-items ≡ l.i-end) × Got l.line l.k l.x-items l.i
+invariant-loop-i l = (length l.xs ≡ l.i-end) × Got l.line l.k l.xs l.i

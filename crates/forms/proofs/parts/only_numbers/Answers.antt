@@ -3,7 +3,7 @@ use Rattle.forms.proofs.Rows.{only-all, only-more}
 use Rattle.forms.proofs.parts.only_numbers.Goals as goal
 
 pub returns-then-is_end : goal.returns-then-is_end
-returns-then-is_end g c = only-all _ _ _ _ c.in_ok-xs.ensures (rw (← c.from.ensures) c.is_end.ensures) c.if-is_end.true
+returns-then-is_end c = only-all _ _ _ c.in_ok-numbers.ensures (rw (← c.from.ensures) c.is_end.ensures) c.if-is_end.true
 
 pub returns : goal.returns
-returns g c = rw c.from.ensures (only-more _ _ _ _ c.in_ok-xs.ensures (rw (← c.from.ensures) c.is_end.ensures) c.if-is_end.false)
+returns c = rw c.from.ensures (only-more _ _ _ c.in_ok-numbers.ensures (rw (← c.from.ensures) c.is_end.ensures) c.if-is_end.false)
