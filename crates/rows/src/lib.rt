@@ -1,5 +1,5 @@
 // Rows 1 to 5 of the refusal table, which look at an input alone, the components that row 9 looks at too, and the radius of
-// row 22. Each takes what the tests before it came to, and hands on the one that failed.
+// row 22. Each but `finite_inputs` takes what the tests before it came to, and hands on the one that failed.
 #![tactic(auto, using(table::proofs::Laws::told_fails, table::proofs::Laws::told_passes))]
 
 ghost use Rattle.std.specs.Prelude.{◌≡◌};
