@@ -8,13 +8,17 @@ use native.Mathlib.Omega.{arith}
 use mathlib.Core.Path.{◌≡◌, refl, sym, ap, ◌∙◌}
 use mathlib.Core.List.{List, [], ◌∷◌, ◌++◌, append_assoc, append-nil}
 use mathlib.Core.Bool.{Bool, true, false}
-use lib.ListN.{length, take, set, length-set}
+use lib.ListN.{length, take, drop, set, length-set}
 use lib.Seq.{take_all, take-suc-set}
 use lib.Ieee.{Float}
 use Rattle.words.specs.Words.{word_at, is_end}
 use Rattle.numerals.specs.Numbers.{word_number}
 use Rattle.forms.specs.Forms.{Form, end, numbers, by_number, read_by}
-use Rattle.forms.specs.Parts.{Numbers, OnlyNumbers}
+use Rattle.real.specs.F64.{f0}
+use Rattle.std.proofs.Common.{get_or}
+use Rattle.std.proofs.Math.Seq.{drop-cons}
+use Rattle.std.proofs.lemmas.List.{drop-set-lt, drop_all, take-append-drop}
+use Rattle.forms.specs.Parts.{Numbers, OnlyNumbers, filled, filled_from}
 use Rattle.forms.proofs.Steps.{by_end}
 
 -- by what `ok_or` makes of a word
@@ -65,6 +69,35 @@ module _ {line : List ℕ} {k : ℕ} {xs : List Float} {i : ℕ} (g : Got line k
       let z : g.left ≡ 0 = omega (arith, g.sum) in
       let m : i ≡ length xs = omega (arith, g.sum) in
       g.reads go ∙ rw (z, take_all i xs h, append-nil, m) refl
+
+-- ---- what the slice holds: the numbers read so far, and from there on what it held
+
+abbrev pub Filled : List ℕ → ℕ → List Float → List Float → ℕ → Type 0
+Filled line k held xs i = filled k line held ≡ take i xs ++ filled (k + i) line (drop i xs)
+
+pub filled-none : (line : List ℕ) (k : ℕ) (xs : List Float) → Filled line k xs xs 0
+filled-none line k xs = rw (add-zero k) refl
+
+module _ (line : List ℕ) (k : ℕ) (held xs : List Float) (i : ℕ) (f : Filled line k held xs i) where
+  pub filled-more : {n : Option Float} {x : Float} → i < length xs → n ≡ word_number (word_at (k + i) line) → n ≡ Some x → Filled line k held (set xs i x) (i + 1)
+  filled-more {n} {x} h e q =
+      let t : take (i + 1) (set xs i x) ≡ take i xs ++ (x ∷ []) = rw add-one (take-suc-set xs i x h) in
+      let d : drop (i + 1) (set xs i x) ≡ drop (i + 1) xs = drop-set-lt (i + 1) xs i x (omega arith) in
+      let c : drop i xs ≡ get_or xs i x ∷ drop (i + 1) xs = rw add-one (drop-cons xs i x h) in
+      let r : filled (k + i) line (drop i xs) ≡ x ∷ filled (k + i + 1) line (drop (i + 1) xs) =
+      ap (filled (k + i) line) c ∙ ap (λ (m : Option Float). filled_from m (get_or xs i x ∷ drop (i + 1) xs) (filled (k + i + 1) line (drop (i + 1) xs))) (sym e ∙ q) in
+      f ∙ simp (r, t, d, append_assoc, add_assoc k i 1)
+
+  pub filled-bad : {n : Option Float} → i < length xs → n ≡ word_number (word_at (k + i) line) → n ≡ None → xs ≡ filled k line held
+  filled-bad {n} h e q =
+      let x : Float = get_or xs i f0 in
+      let c : drop i xs ≡ x ∷ drop (i + 1) xs = rw add-one (drop-cons xs i f0 h) in
+      let r : filled (k + i) line (drop i xs) ≡ drop i xs =
+      ap (filled (k + i) line) c ∙ ap (λ (m : Option Float). filled_from m (x ∷ drop (i + 1) xs) (filled (k + i + 1) line (drop (i + 1) xs))) (sym e ∙ q) ∙ sym c in
+      sym (f ∙ ap (λ (ys : List Float). take i xs ++ ys) r ∙ take-append-drop i xs)
+
+  pub filled-all : length xs ≤ i → xs ≡ filled k line held
+  filled-all h = sym (f ∙ rw (take_all i xs h, drop_all i xs h, append-nil) refl)
 
 -- ---- and no word more
 

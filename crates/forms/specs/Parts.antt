@@ -1,5 +1,7 @@
 -- What a part that was read says of the form that begins with it, whatever follows. Assumes nothing: these are definitions.
-use Rattle.std.specs.Prelude.{ℕ, ◌+◌, ◌≡◌, List, length, ℤ, Float, Err, Ok, Result}
+use Rattle.std.specs.Prelude.{ℕ, ◌+◌, ◌≡◌, List, [], ◌∷◌, length, ℤ, Float, Err, Ok, Result, None, Option, Some}
+use Rattle.words.specs.Words.{word_at}
+use Rattle.numerals.specs.Numbers.{word_number}
 use Rattle.iterator.specs.declared.Judgement.{Judgement}
 use Rattle.forms.specs.declared.Request.{Request}
 use Rattle.forms.specs.Forms.{Form, end, signed, judgement, numbers, read_by}
@@ -12,6 +14,15 @@ where_read (Err w) all = Err w
 abbrev pub Numbers : List Float → ℕ → Result Unit ℕ → List ℕ → Type 0
 Numbers xs k r line =
     (go : List Float → Form) → read_by (numbers (length xs) go) k line ≡ where_read r (read_by (go xs) (k + length xs) line)
+
+-- what a lent slice holds after that: the numbers up to the first word that is none, and from there on what it held
+abbrev pub filled_from : Option Float → List Float → List Float → List Float
+filled_from (Some x) held rest = x ∷ rest
+filled_from None held rest = held
+
+abbrev pub filled : ℕ → List ℕ → List Float → List Float
+filled k line [] = []
+filled k line (x ∷ xs) = filled_from (word_number (word_at k line)) (x ∷ xs) (filled (k + 1) line xs)
 
 -- and no word more
 abbrev pub OnlyNumbers : List Float → ℕ → Result Unit ℕ → List ℕ → Type 0

@@ -5,7 +5,7 @@ ghost use Rattle.words.specs.Words.{word_at};
 ghost use Rattle.numerals.specs.Numbers.{word_number};
 ghost use Rattle.forms.specs.Judgements.{word_judgement};
 ghost use Rattle.forms.specs.Forms.{end, read_by};
-ghost use Rattle.forms.specs.Parts.{Numbers, OnlyNumbers, ReadsNumbers, ReadsOnly, ReadsEnds, ReadsSides};
+ghost use Rattle.forms.specs.Parts.{Numbers, OnlyNumbers, filled, ReadsNumbers, ReadsOnly, ReadsEnds, ReadsSides};
 
 use crate::Request;
 use crate::judgement::read_judgement;
@@ -17,9 +17,10 @@ pub fn number_at(line: &[u8], k: u64) -> Option<f64>
     numerals::read_number(words::word(line, k))
 }
 
-// Numbers, as many as there is room for.
+// Numbers, as many as there is room for. From the first word that is none on, the room stays as it was.
 pub fn numbers(line: &[u8], k: u32, xs: &mut [f64]) -> Result<(), u64>
-    ensures { Numbers xs.new k result line.now }
+    ensures read { Numbers xs.new k result line.now }
+    ensures left { xs.new ≡ filled k line.now xs.old }
 {
     for (i, x) in xs.iter_mut().enumerate() {
         let at = u64::from(k) + i as u64;
@@ -30,7 +31,8 @@ pub fn numbers(line: &[u8], k: u32, xs: &mut [f64]) -> Result<(), u64>
 
 // The same, and no word more.
 pub fn only_numbers(line: &[u8], k: u32, xs: &mut [f64]) -> Result<(), u64>
-    ensures { OnlyNumbers xs.new k result line.now }
+    ensures read { OnlyNumbers xs.new k result line.now }
+    ensures left { xs.new ≡ filled k line.now xs.old }
 {
     numbers(line, k, xs)?;
     let at = u64::from(k) + xs.len() as u64;
