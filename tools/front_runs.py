@@ -22,8 +22,9 @@ import tty
 sys.path.insert(0, str(pathlib.Path(__file__).parent))
 from make_sample import listing, night, sample, text
 
-# A start in the background leaves SIGINT ignored, and what is started here would inherit that.
+# A start in the background leaves SIGINT ignored, and a service may leave SIGTERM so; what is started here would inherit that.
 signal.signal(signal.SIGINT, signal.default_int_handler)
+signal.signal(signal.SIGTERM, signal.SIG_DFL)
 
 ROOT = pathlib.Path(__file__).resolve().parent.parent
 SAMPLE = ROOT / "samples" / "session.bin"

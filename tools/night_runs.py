@@ -36,8 +36,9 @@ from night.verdict import Event, Mark
 from make_sample import BURN, DAY, HOUR, MARK, MINUTE, MOON, STATE, circling, flown, offset, record
 from settings import record as version
 
-# A start in the background leaves SIGINT ignored, and what is started here would inherit that.
+# A start in the background leaves SIGINT ignored, and a service may leave SIGTERM so; what is started here would inherit that.
 signal.signal(signal.SIGINT, signal.default_int_handler)
+signal.signal(signal.SIGTERM, signal.SIG_DFL)
 
 ROOT = pathlib.Path(__file__).resolve().parent.parent
 NIGHT = ROOT / "tools" / "night.py"
