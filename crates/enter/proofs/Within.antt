@@ -16,7 +16,7 @@ use Rattle.session.specs.Decode.{allowed_in}
 use Rattle.writer.specs.Write.{has_room, written_for, offset_may}
 use Rattle.entry.specs.declared.line.Entry.{Entry}
 use Rattle.entry.specs.declared.line.Entry.TheVariants as E
-use Rattle.enter.specs.Enter.{as_entered, state_record, burn_record, mark_record, entry_written, entered_of}
+use Rattle.enter.specs.Enter.{as_entered_by, state_record, burn_record, mark_record, entry_written, entered_by, entered_of}
 
 told : (a b : Bool) (m x : ℕ) → ◌≡◌ {A = Result ℕ Refusal} (cond (not a) (Err Refusal.NotAllowed) (cond (not b) (Err Refusal.NoRoom) (Ok m))) (Ok x) → (b ≡ true) × (m ≡ x)
 told false b m x e = absurd (cc)
@@ -36,10 +36,14 @@ entry-within d at (E.State t v b s) x h e = let r = state_record t v b s in writ
 entry-within d at (E.Burn t v c) x h e = let r = burn_record t v c in written-within (allowed_in r) d at (record_length (kind_in r)) x e
 entry-within d at (E.Mark t v p q) x h e = let r = mark_record t v p q in written-within (allowed_in r) d at (record_length (kind_in r)) x e
 
-entered-as : (w : Result ℕ Refusal) (x : ℕ) → as_entered w ≡ Ok x → w ≡ Ok x
-entered-as (Ok n) x e = let w : n ≡ x = cc in ap Ok w
-entered-as (Err n) x e = absurd (cc)
+entered-as : {R : Type 0} (given : Refusal → R) (w : Result ℕ Refusal) (x : ℕ) → as_entered_by given w ≡ Ok x → w ≡ Ok x
+entered-as given (Ok n) x e = let w : n ≡ x = cc in ap Ok w
+entered-as given (Err n) x e = absurd (cc)
+
+-- whatever a refusal is given as
+pub within-by : {R : Type 0} (given : Refusal → R) (d : List ℕ) (at : ℕ) (e : Result Entry ℕ) (x : ℕ) → at ≤ length d → entered_by given d at e ≡ Ok x → x ≤ length d
+within-by given d at (Ok e) x h p = entry-within d at e x h (entered-as given (entry_written d at e) x p)
+within-by given d at (Err w) x h p = absurd (cc)
 
 pub within : (d : List ℕ) (at : ℕ) (e : Result Entry ℕ) (x : ℕ) → at ≤ length d → entered_of d at e ≡ Ok x → x ≤ length d
-within d at (Ok e) x h p = entry-within d at e x h (entered-as (entry_written d at e) x p)
-within d at (Err w) x h p = absurd (cc)
+within d at e x h p = within-by (λ r. r) d at e x h p

@@ -1,6 +1,5 @@
 -- What entering a line into a session does. Assumes nothing: these are definitions.
 use Rattle.refusal.specs.declared.Refusal.{Refusal}
-use Rattle.refusal.specs.Refusals.{number_of}
 use Rattle.std.specs.Prelude.{ℕ, List, ℤ, Float, Err, Ok, Result}
 use Rattle.vector.specs.declared.Vector.{Vector}
 use Rattle.vector.specs.declared.State.{State}
@@ -9,7 +8,7 @@ use Rattle.session.specs.declared.record.Record.TheVariants as R
 use Rattle.writer.specs.Write.{written_of, buffer_of, offset_written, offset_buffer}
 use Rattle.entry.specs.declared.line.Entry.{Entry}
 use Rattle.entry.specs.declared.line.Entry.TheVariants as E
-use Rattle.enter.specs.declared.Fault.{Fault}
+use Rattle.enter.specs.declared.Fault.{Fault as FaultOf}
 use Rattle.enter.specs.declared.Fault.TheVariants.{Refused, Unread}
 
 -- the record of what a line says, whether it is allowed or not
@@ -38,14 +37,25 @@ entry_session d at (E.State t v b s) = buffer_of d at (state_record t v b s)
 entry_session d at (E.Burn t v c) = buffer_of d at (burn_record t v c)
 entry_session d at (E.Mark t v x y) = buffer_of d at (mark_record t v x y)
 
-abbrev pub as_entered : Result ℕ Refusal → Result ℕ Fault
-as_entered (Ok n) = Ok n
-as_entered (Err r) = Err (Refused (number_of r))
+-- whose refusal is a case of `Refusal`; FaultOf R has a refusal of another type, as any number
+abbrev pub Fault : Type 0
+Fault = FaultOf Refusal
+
+-- a refusal is given as a value of R: as it is, or by its number
+abbrev pub as_entered_by : {R : Type 0} → (Refusal → R) → Result ℕ Refusal → Result ℕ (FaultOf R)
+as_entered_by given (Ok n) = Ok n
+as_entered_by given (Err r) = Err (Refused (given r))
 
 -- of a line, by what it says: the entry's answer, or the word that cannot be read
+abbrev pub entered_by : {R : Type 0} → (Refusal → R) → List ℕ → ℕ → Result Entry ℕ → Result ℕ (FaultOf R)
+entered_by given d at (Ok e) = as_entered_by given (entry_written d at e)
+entered_by given d at (Err w) = Err (Unread w)
+
+abbrev pub as_entered : Result ℕ Refusal → Result ℕ Fault
+as_entered w = as_entered_by (λ r. r) w
+
 abbrev pub entered_of : List ℕ → ℕ → Result Entry ℕ → Result ℕ Fault
-entered_of d at (Ok e) = as_entered (entry_written d at e)
-entered_of d at (Err w) = Err (Unread w)
+entered_of d at e = entered_by (λ r. r) d at e
 
 abbrev pub session_of : List ℕ → ℕ → Result Entry ℕ → List ℕ
 session_of d at (Ok e) = entry_session d at e

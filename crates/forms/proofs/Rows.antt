@@ -18,7 +18,7 @@ use Rattle.real.specs.F64.{f0}
 use Rattle.std.proofs.Common.{get_or}
 use Rattle.std.proofs.Math.Seq.{drop-cons}
 use Rattle.std.proofs.lemmas.List.{drop-set-lt, drop_all, take-append-drop}
-use Rattle.forms.specs.Parts.{Numbers, OnlyNumbers, filled, filled_from}
+use Rattle.forms.specs.Parts.{Numbers, filled, filled_from, ReadsNumbers, ReadsOnly}
 use Rattle.forms.proofs.Steps.{by_end}
 
 -- by what `ok_or` makes of a word
@@ -101,12 +101,12 @@ module _ (line : List ℕ) (k : ℕ) (held xs : List Float) (i : ℕ) (f : Fille
 
 -- ---- and no word more
 
-module _ (k : ℕ) (line : List ℕ) (xs : List Float) where
-  pub only-all : {r : Bool} → Numbers xs k (Ok tt) line → r ≡ is_end (k + length xs) line → r ≡ true → OnlyNumbers xs k (Ok tt) line
-  only-all p e b ask = p (λ (ys : List Float). end (ask ys)) ∙ by_end (ask xs) (k + length xs) line e b
+module _ (n : ℕ) (k : ℕ) (line : List ℕ) where
+  pub only-all : (xs : List Float) {r : Bool} → ReadsNumbers n (Ok xs) k line → r ≡ is_end (k + n) line → r ≡ true → ReadsOnly n (Ok xs) k line
+  only-all xs p e b ask = p (λ (ys : List Float). end (ask ys)) ∙ by_end (ask xs) (k + n) line e b
 
-  pub only-more : {r : Bool} → Numbers xs k (Ok tt) line → r ≡ is_end (k + length xs) line → r ≡ false → OnlyNumbers xs k (Err (k + length xs + 1)) line
-  only-more p e b ask = p (λ (ys : List Float). end (ask ys)) ∙ by_end (ask xs) (k + length xs) line e b
+  pub only-more : (xs : List Float) {r : Bool} → ReadsNumbers n (Ok xs) k line → r ≡ is_end (k + n) line → r ≡ false → ReadsOnly n (Err (k + n + 1)) k line
+  only-more xs p e b ask = p (λ (ys : List Float). end (ask ys)) ∙ by_end (ask xs) (k + n) line e b
 
-  pub only-bad : (w : ℕ) → Numbers xs k (Err w) line → OnlyNumbers xs k (Err w) line
+  pub only-bad : (w : ℕ) → ReadsNumbers n (Err w) k line → ReadsOnly n (Err w) k line
   only-bad w p ask = p (λ (ys : List Float). end (ask ys))

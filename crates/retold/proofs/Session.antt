@@ -1,5 +1,5 @@
 -- The lines that are shown of a whole session, entered, make its bytes. Assumes nothing.
-use Rattle.refusal.specs.declared.Refusal.TheVariants as Refusal
+use Rattle.refusal.specs.declared.Refusal.{Refusal}
 use Prim.Native.Nat.{ℕ, ◌+◌, ◌≤◌}
 use native.Mathlib.Omega.{arith}
 use mathlib.Core.Path.{◌≡◌, refl, sym, ap, ◌∙◌}
@@ -42,12 +42,12 @@ use mir.Val.{SFits}
 use Rattle.entry.specs.declared.line.Entry.{Entry}
 use Rattle.entry.specs.declared.line.Entry.TheVariants as E
 use Rattle.entry.specs.Entries.{entry_of}
-use Rattle.enter.specs.Enter.{as_entered, entry_written, entry_session, entered_of, session_of}
+use Rattle.enter.specs.Enter.{as_entered_by, entry_written, entry_session, entered_by, session_of}
 use Rattle.book.specs.declared.Progress.{Progress}
-use Rattle.book.specs.declared.Ended.{Ended}
+use Rattle.book.specs.declared.Ended.{Ended as EndedOf}
 use Rattle.std.specs.Prelude.{Ok, Result}
-use Rattle.book.specs.Book.{one_more, as_progress, progress_of, progress_over, written_by}
-use Rattle.book.proofs.Laws.{turns-none, turns_more}
+use Rattle.book.specs.Book.{one_more, as_progress, progress_by, progress_over_by, progress_over, written_over_by, written_by}
+use Rattle.book.proofs.Laws.{turns-none-by, turns-more-by}
 use Rattle.retold.specs.Said.{line_text, offset_text, said_of}
 use Rattle.retold.proofs.Retold.{retold, offset-retold}
 use Rattle.retold.proofs.TwoLines.{comment-skipped}
@@ -56,15 +56,17 @@ use Rattle.retold.proofs.TwoLines.{comment-skipped}
 abbrev next_line : ℕ → Progress → Progress
 next_line a p = record { at = a; count = one_more p.count }
 
--- a line that was entered leads on
-step : (d : List ℕ) (p : Progress) (l : List ℕ) (ls : List (List ℕ)) (e : Entry) (a : ℕ) (f : List ℕ) → entry_of l ≡ Ok e → entry_written d p.at e ≡ Ok a → entry_session d p.at e ≡ f
-    → (progress_over (l ∷ ls) d (Ok p) ≡ progress_over ls f (Ok (next_line a p))) × (written_by (l ∷ ls) d (Ok p) ≡ written_by ls f (Ok (next_line a p)))
-step d p l ls e a f h g i =
-    let t = turns_more d p l ls in
+-- a line that was entered leads on, whatever a refusal is given as
+step : {R : Type 0} (given : Refusal → R) (d : List ℕ) (p : Progress) (l : List ℕ) (ls : List (List ℕ)) (e : Entry) (a : ℕ) (f : List ℕ)
+    → entry_of l ≡ Ok e → entry_written d p.at e ≡ Ok a → entry_session d p.at e ≡ f
+    → (progress_over_by given (l ∷ ls) d (Ok p) ≡ progress_over_by given ls f (Ok (next_line a p)))
+    × (written_over_by given (l ∷ ls) d (Ok p) ≡ written_over_by given ls f (Ok (next_line a p)))
+step given d p l ls e a f h g i =
+    let t = turns-more-by given d p l ls in
     let x : session_of d p.at (entry_of l) ≡ f = ap (session_of d p.at) h ∙ i in
-    let y : progress_of d p l ≡ Ok (next_line a p) = ap (as_progress (one_more p.count)) (ap (entered_of d p.at) h ∙ ap as_entered g) in (
-      t.0 ∙ ap (λ (z : List ℕ). progress_over ls z (progress_of d p l)) x ∙ ap (progress_over ls f) y,
-      t.1 ∙ ap (λ (z : List ℕ). written_by ls z (progress_of d p l)) x ∙ ap (written_by ls f) y,
+    let y : progress_by given d p l ≡ Ok (next_line a p) = ap (as_progress (one_more p.count)) (ap (entered_by given d p.at) h ∙ ap (as_entered_by given) g) in (
+      t.0 ∙ ap (λ (z : List ℕ). progress_over_by given ls z (progress_by given d p l)) x ∙ ap (progress_over_by given ls f) y,
+      t.1 ∙ ap (λ (z : List ℕ). written_over_by given ls z (progress_by given d p l)) x ∙ ap (written_over_by given ls f) y,
     )
 
 -- a record as a line says it is written as the record
@@ -159,33 +161,40 @@ pub data Shown (s : List ℕ) : Place → List (List ℕ) → Type 0 where
   offset_at : {p q : Place} {c : List ℕ} {ls : List (List ℕ)} → read_at s p ≡ A.Offset q → Shown s q ls → Shown s p ((35 ∷ c) ∷ offset_text q.offset ∷ ls)
 
 -- no line was refused, the records end with the session, and up to there the buffer is the session
-pub record Same (s : List ℕ) (t : Result Progress Ended) (e : List ℕ) : Type 0 where
+pub record Same {R : Type 0} (s : List ℕ) (t : Result Progress (EndedOf R)) (e : List ℕ) : Type 0 where
   pub count : ℕ
   pub turn : t ≡ Ok (record { at = length s; count = count })
   pub bytes : take (length s) e ≡ s
 
-same_as_lem : {s : List ℕ} {t u : Result Progress Ended} {e f : List ℕ} → t ≡ u → e ≡ f → Same s u f → Same s t e
-same_as_lem {s} p q x = record { count = x.count; turn = p ∙ x.turn; bytes = ap (take (length s)) q ∙ x.bytes }
+same_as_lem : {R : Type 0} {s : List ℕ} {t u : Result Progress (EndedOf R)} {e f : List ℕ} → t ≡ u → e ≡ f → Same s u f → Same s t e
+same_as_lem {s = s} p q x = record { count = x.count; turn = p ∙ x.turn; bytes = ap (take (length s)) q ∙ x.bytes }
 
-pub again : {s : List ℕ} {p : Place} {ls : List (List ℕ)} → Shown s p ls → Bytes s → (d : List ℕ) (k : ℕ) → length s ≤ length d → take p.at d ≡ take p.at s
-    → Same s (progress_over ls d (Ok (record { at = p.at; count = k }))) (written_by ls d (Ok (record { at = p.at; count = k })))
-again {s} (end {p} e) b d k w h =
+-- whatever a refusal is given as
+pub again-by : {R : Type 0} (given : Refusal → R) {s : List ℕ} {p : Place} {ls : List (List ℕ)} → Shown s p ls → Bytes s → (d : List ℕ) (k : ℕ)
+    → length s ≤ length d → take p.at d ≡ take p.at s
+    → Same s (progress_over_by given ls d (Ok (record { at = p.at; count = k }))) (written_over_by given ls d (Ok (record { at = p.at; count = k })))
+again-by given {s} (end {p} e) b d k w h =
     let a = at-end s p e in
-    let t = turns-none d (Ok (record { at = p.at; count = k })) in
+    let t = turns-none-by given d (Ok (record { at = p.at; count = k })) in
     same_as_lem (t.0 ∙ ap (λ (n : ℕ). Ok (record { at = n; count = k })) a) t.1
     (record { count = k; turn = refl; bytes = ap (λ (n : ℕ). take n d) (sym a) ∙ h ∙ ap (λ (n : ℕ). take n s) a ∙ take_all (length s) s (omega arith) })
-again {s} (record_at_lem {p} {q} {r} {c} {ls} e more) b d k w h =
+again-by given {s} (record_at_lem {p} {q} {r} {c} {ls} e more) b d k w h =
     let f = found s p r q e in
     let g = decoded-allowed (drop p.at s) (bytes_drop p.at s b) r f.size f.whole in
     let x = record-entered s d p q r b e w h in
-    let i = step d (record { at = p.at; count = k }) (35 ∷ c) (line_text r ∷ ls) E.Nothing p.at d (comment-skipped c) refl refl in
-    let j = step d (record { at = p.at; count = one_more k }) (line_text r) ls (said_of r) q.at (entry_session d p.at (said_of r)) (retold r g.1 g.0) x.answer refl in
-    same_as_lem (i.0 ∙ j.0) (i.1 ∙ j.1) (again more b (entry_session d p.at (said_of r)) (one_more (one_more k)) x.wide x.ahead)
-again {s} (offset_at {p} {q} {c} {ls} e more) b d k w h =
+    let i = step given d (record { at = p.at; count = k }) (35 ∷ c) (line_text r ∷ ls) E.Nothing p.at d (comment-skipped c) refl refl in
+    let j = step given d (record { at = p.at; count = one_more k }) (line_text r) ls (said_of r) q.at (entry_session d p.at (said_of r)) (retold r g.1 g.0) x.answer refl in
+    same_as_lem (i.0 ∙ j.0) (i.1 ∙ j.1) (again-by given more b (entry_session d p.at (said_of r)) (one_more (one_more k)) x.wide x.ahead)
+again-by given {s} (offset_at {p} {q} {c} {ls} e more) b d k w h =
     let z = q.offset in
-    let o = at_offset (eqb p.at 0) (drop p.at s) z (offset-found s p q e).1 in
-    let m : SFits w16 z = record { sfits = omega (arith, offset-small z o.allowed) } in
+    let y = at_offset (eqb p.at 0) (drop p.at s) z (offset-found s p q e).1 in
+    let m : SFits w16 z = record { sfits = omega (arith, offset-small z y.allowed) } in
     let x = offset-entered s d p q b e w h in
-    let i = step d (record { at = p.at; count = k }) (35 ∷ c) (offset_text z ∷ ls) E.Nothing p.at d (comment-skipped c) refl refl in
-    let j = step d (record { at = p.at; count = one_more k }) (offset_text z) ls (E.Offset z) q.at (entry_session d p.at (E.Offset z)) (offset-retold z m) x.answer refl in
-    same_as_lem (i.0 ∙ j.0) (i.1 ∙ j.1) (again more b (entry_session d p.at (E.Offset z)) (one_more (one_more k)) x.wide x.ahead)
+    let i = step given d (record { at = p.at; count = k }) (35 ∷ c) (offset_text z ∷ ls) E.Nothing p.at d (comment-skipped c) refl refl in
+    let j = step given d (record { at = p.at; count = one_more k }) (offset_text z) ls (E.Offset z) q.at (entry_session d p.at (E.Offset z)) (offset-retold z m) x.answer refl in
+    same_as_lem (i.0 ∙ j.0) (i.1 ∙ j.1) (again-by given more b (entry_session d p.at (E.Offset z)) (one_more (one_more k)) x.wide x.ahead)
+
+pub again : {s : List ℕ} {p : Place} {ls : List (List ℕ)} → Shown s p ls → Bytes s → (d : List ℕ) (k : ℕ) → length s ≤ length d → take p.at d ≡ take p.at s
+    → Same s (progress_over ls d (Ok (record { at = p.at; count = k }))) (written_by ls d (Ok (record { at = p.at; count = k })))
+unfolding progress_over written_by
+again x b d k w h = again-by (λ r. r) x b d k w h

@@ -12,9 +12,10 @@ use Rattle.split.proofs.Calls.{line-law, calls-law}
 use Rattle.entry.specs.Entries.{entry_of}
 use Rattle.enter.specs.Enter.{session_of}
 use Rattle.book.specs.declared.Progress.{Progress}
-use Rattle.book.specs.declared.Ended.{Ended}
-use Rattle.book.specs.Book.{progress_of, progress_over, written_by}
-use Rattle.book.proofs.Laws.{turns-none, turns_more, turns-ended, turn-within}
+use Rattle.book.specs.declared.Ended.{Ended as EndedOf}
+use Rattle.book.specs.Book.{progress_by, progress_over_by, written_over_by}
+use Rattle.book.proofs.Laws.{turns-none-by, turns-more-by, turns-ended-by, turn-within-by}
+use Rattle.refusal.specs.Refusals.{number_of}
 use Rattle.write.specs.Feed.{rows_of, Feeds}
 
 -- what the rest of s does is what the whole does: from the room e with m bytes kept and the session f at a place
@@ -24,8 +25,8 @@ pub record Left (s l : List ℕ) (k : ℕ) (d : List ℕ) (p : Progress) (e : Li
   pub size : length e ≡ length l
   pub within : q.at ≤ length f
   pub wide : length f ≡ length d
-  pub turns : progress_over (rows_from (length e) (take m e) (drop from s)).lines f (Ok q) ≡ progress_over (rows_of s l k).lines d (Ok p)
-  pub written : written_by (rows_from (length e) (take m e) (drop from s)).lines f (Ok q) ≡ written_by (rows_of s l k).lines d (Ok p)
+  pub turns : progress_over_by number_of (rows_from (length e) (take m e) (drop from s)).lines f (Ok q) ≡ progress_over_by number_of (rows_of s l k).lines d (Ok p)
+  pub written : written_over_by number_of (rows_from (length e) (take m e) (drop from s)).lines f (Ok q) ≡ written_over_by number_of (rows_of s l k).lines d (Ok p)
   pub kept : (rows_from (length e) (take m e) (drop from s)).kept ≡ (rows_of s l k).kept
 
 pub begin : (s l : List ℕ) (k : ℕ) (d : List ℕ) (p : Progress) → k ≤ length l → p.at ≤ length d → Left s l k d p l k 0 d p
@@ -47,24 +48,24 @@ module _ {s l : List ℕ} {k : ℕ} {d : List ℕ} {p : Progress} {e : List ℕ}
     pub line-forth : (from < b) × (b ≤ length s)
     line-forth = let y = line-law e m s from z b w a.inside a.start in (y.forth, y.inside)
 
-    module _ {t : Result Progress Ended} {h : List ℕ} (u : t ≡ progress_of f q (take z g)) (v : h ≡ session_of f q.at (entry_of (take z g))) where
-      next-turns : progress_over behind.lines h t ≡ progress_over (rows_of s l k).lines d (Ok p)
+    module _ {t : Result Progress (EndedOf ℕ)} {h : List ℕ} (u : t ≡ progress_by number_of f q (take z g)) (v : h ≡ session_of f q.at (entry_of (take z g))) where
+      next-turns : progress_over_by number_of behind.lines h t ≡ progress_over_by number_of (rows_of s l k).lines d (Ok p)
       next-turns =
           let y = line-law e m s from z b w a.inside a.start in
           let x = ap (λ (i : List ℕ). take z i) r in
-          let o = turns_more f q (take z (room_of e m (drop from s))) behind.lines in
-          ap (λ (i : List ℕ). progress_over behind.lines i t) v ∙ ap (progress_over behind.lines (session_of f q.at (entry_of (take z g)))) u
-          ∙ ap (λ (i : List ℕ). progress_over behind.lines (session_of f q.at (entry_of i)) (progress_of f q i)) x
-          ∙ sym o.0 ∙ sym (ap (λ (i : Rows). progress_over i.lines f (Ok q)) y.rows) ∙ a.turns
+          let o = turns-more-by number_of f q (take z (room_of e m (drop from s))) behind.lines in
+          ap (λ (i : List ℕ). progress_over_by number_of behind.lines i t) v ∙ ap (progress_over_by number_of behind.lines (session_of f q.at (entry_of (take z g)))) u
+          ∙ ap (λ (i : List ℕ). progress_over_by number_of behind.lines (session_of f q.at (entry_of i)) (progress_by number_of f q i)) x
+          ∙ sym o.0 ∙ sym (ap (λ (i : Rows). progress_over_by number_of i.lines f (Ok q)) y.rows) ∙ a.turns
 
-      next-written : written_by behind.lines h t ≡ written_by (rows_of s l k).lines d (Ok p)
+      next-written : written_over_by number_of behind.lines h t ≡ written_over_by number_of (rows_of s l k).lines d (Ok p)
       next-written =
           let y = line-law e m s from z b w a.inside a.start in
           let x = ap (λ (i : List ℕ). take z i) r in
-          let o = turns_more f q (take z (room_of e m (drop from s))) behind.lines in
-          ap (λ (i : List ℕ). written_by behind.lines i t) v ∙ ap (written_by behind.lines (session_of f q.at (entry_of (take z g)))) u
-          ∙ ap (λ (i : List ℕ). written_by behind.lines (session_of f q.at (entry_of i)) (progress_of f q i)) x
-          ∙ sym o.1 ∙ sym (ap (λ (i : Rows). written_by i.lines f (Ok q)) y.rows) ∙ a.written
+          let o = turns-more-by number_of f q (take z (room_of e m (drop from s))) behind.lines in
+          ap (λ (i : List ℕ). written_over_by number_of behind.lines i t) v ∙ ap (written_over_by number_of behind.lines (session_of f q.at (entry_of (take z g)))) u
+          ∙ ap (λ (i : List ℕ). written_over_by number_of behind.lines (session_of f q.at (entry_of i)) (progress_by number_of f q i)) x
+          ∙ sym o.1 ∙ sym (ap (λ (i : Rows). written_over_by number_of i.lines f (Ok q)) y.rows) ∙ a.written
 
       -- the line was entered: on to the next
       pub on : (x : Progress) → t ≡ Ok x → length h ≡ length f → Left s l k d p g 0 b h x
@@ -75,16 +76,16 @@ module _ {s l : List ℕ} {k : ℕ} {d : List ℕ} {p : Progress} {e : List ℕ}
             start = y.inside;
             inside = zero-le;
             size = line-size;
-            within = rw c (turn-within f q (take z g) x a.within (sym u ∙ i));
+            within = rw c (turn-within-by number_of f q (take z g) x a.within (sym u ∙ i));
             wide = c ∙ a.wide;
-            turns = sym (ap (λ (j : ℕ). progress_over (rows_from j [] (drop b s)).lines h (Ok x)) o) ∙ sym (ap (progress_over behind.lines h) i) ∙ next-turns;
-            written = sym (ap (λ (j : ℕ). written_by (rows_from j [] (drop b s)).lines h (Ok x)) o) ∙ sym (ap (written_by behind.lines h) i) ∙ next-written;
+            turns = sym (ap (λ (j : ℕ). progress_over_by number_of (rows_from j [] (drop b s)).lines h (Ok x)) o) ∙ sym (ap (progress_over_by number_of behind.lines h) i) ∙ next-turns;
+            written = sym (ap (λ (j : ℕ). written_over_by number_of (rows_from j [] (drop b s)).lines h (Ok x)) o) ∙ sym (ap (written_over_by number_of behind.lines h) i) ∙ next-written;
             kept = sym (ap (λ (x : ℕ). (rows_from x [] (drop b s)).kept) o) ∙ sym (ap (λ (x : Rows). x.kept) y.rows) ∙ a.kept;
           }
 
       -- or it ended all
-      pub ends : (x : Ended) → t ≡ Err x → progress_over (rows_of s l k).lines d (Ok p) ≡ Err x
-      ends x i = sym next-turns ∙ ap (progress_over behind.lines h) i ∙ turns-ended h x behind.lines
+      pub ends : (x : EndedOf ℕ) → t ≡ Err x → progress_over_by number_of (rows_of s l k).lines d (Ok p) ≡ Err x
+      ends x i = sym next-turns ∙ ap (progress_over_by number_of behind.lines h) i ∙ turns-ended-by number_of h x behind.lines
 
   -- no newline more
   pub rest : (z : ℕ) → Kept z ≡ found_of e m from (drop from s)
@@ -92,12 +93,12 @@ module _ {s l : List ℕ} {k : ℕ} {d : List ℕ} {p : Progress} {e : List ℕ}
   rest z w =
       let y = calls-law (last {d = e} {k = m} {p = s} {from = from} {n = z} w) a.inside a.start in
       let x = y.rows in
-      let o = turns-none f (Ok q) in (
+      let o = turns-none-by number_of f (Ok q) in (
         ap length r ∙ y.size ∙ a.size,
         rw r y.inside,
         (
-          sym a.turns ∙ ap (λ (i : Rows). progress_over i.lines f (Ok q)) x ∙ o.0,
-          sym o.1 ∙ sym (ap (λ (i : Rows). written_by i.lines f (Ok q)) x) ∙ a.written,
+          sym a.turns ∙ ap (λ (i : Rows). progress_over_by number_of i.lines f (Ok q)) x ∙ o.0,
+          sym o.1 ∙ sym (ap (λ (i : Rows). written_over_by number_of i.lines f (Ok q)) x) ∙ a.written,
           ap (take z) r ∙ sym (ap (λ (i : Rows). i.kept) x) ∙ a.kept,
         ),
       )

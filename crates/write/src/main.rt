@@ -21,7 +21,12 @@ struct State {
 }
 
 // Enters the lines that end in the input.
-fn feed(input: &[u8], line: &mut [u8], session: &mut [u8], state: State) -> Result<State, Ended>
+fn feed(
+    input: &[u8],
+    line: &mut [u8],
+    session: &mut [u8],
+    state: State,
+) -> Result<State, Ended<u32>>
     requires { (state.kept ≤ length line.old) × (state.progress.at ≤ length session.old) }
     ensures { Inside result (length line.new) (length session.new) × Feeds input.now line.old state session.old line.new session.new result }
 {
@@ -31,7 +36,7 @@ fn feed(input: &[u8], line: &mut [u8], session: &mut [u8], state: State) -> Resu
     loop {
         match split::next_line(line, kept, input, from) {
             Found::Line(size, behind) => {
-                progress = book::add(session, progress, &line[..size])?;
+                progress = book::add_by_number(session, progress, &line[..size])?;
                 kept = 0;
                 from = behind;
             }
@@ -46,9 +51,9 @@ fn feed(input: &[u8], line: &mut [u8], session: &mut [u8], state: State) -> Resu
 }
 
 // Says which line ended it.
-fn complain(rt: &impl Eprint, ended: Ended) {
+fn complain(rt: &impl Eprint, ended: Ended<u32>) {
     let mut buf = [0u8; 64];
-    if let Ok(n) = book::tell(Err(ended), &mut buf) {
+    if let Ok(n) = book::tell_by_number(Err(ended), &mut buf) {
         console::say(rt, &buf[..n]);
     }
 }
@@ -57,7 +62,7 @@ fn complain(rt: &impl Eprint, ended: Ended) {
 fn finish(rt: &(impl Print + Eprint), session: &mut [u8], progress: Progress, rest: &[u8])
     requires { progress.at ≤ length session.old }
 {
-    match book::add(session, progress, rest) {
+    match book::add_by_number(session, progress, rest) {
         Ok(last) => {
             console::print(rt, &session[..last.at]);
         }
