@@ -1,7 +1,8 @@
 #!/usr/bin/env bash
 # ./cabin check [CRATE..]: for the one who edits. Lays out and proves the crates named, or those that differ from the main
-# branch, and proves what stands on them; tries the must-fail edits of the changed ones alone; and holds the stored requests
-# to the second program where the desk stands on a change. The gate for landing is ./cabin test.
+# branch, and proves what stands on them, and runs the tests that these have; tries the must-fail edits of the changed ones
+# alone; and holds the stored requests to the second program where the desk stands on a change. The gate for landing is
+# ./cabin test.
 home=$(cd "$(dirname "${BASH_SOURCE[0]}")/.." && pwd -P)
 . "$home/tools/front.sh"
 cd "$home"
@@ -23,6 +24,14 @@ prove_crate() { # CRATE
     (cd "crates/$1" && rt check) >"$keep/$1.check" 2>&1 </dev/null && return
     grep -E ': error|^fn .*: (not proved|no proof)' "$keep/$1.check" || true
     fail "'$1' is not proved: $keep/$1.check says why"
+}
+
+# The tests that a crate has of its own, proved and run.
+pass_tests() { # CRATE
+    grep -rqF '#[test]' "crates/$1/src" || return 0
+    (cd "crates/$1" && rt test) >"$keep/$1.tests" 2>&1 </dev/null && return
+    grep -E ': error|^fn .*: (not proved|no proof)|^test .*FAILED' "$keep/$1.tests" || true
+    fail "a test of '$1' fails: $keep/$1.tests says why"
 }
 
 # A program writes what its file stdout has and ends as its file status says, run as by `rt ci`.
@@ -60,6 +69,7 @@ if [ ${#crates[@]} -gt 0 ]; then
     for crate in "${crates[@]}"; do (cd "crates/$crate" && rt fmt); done
     for crate in "${above[@]}"; do
         prove_crate "$crate"
+        pass_tests "$crate"
         [ ! -f "crates/$crate/src/main.rt" ] || writes_as_stored "$crate"
         say "$crate is proved"
     done

@@ -1,8 +1,14 @@
-"""A must-fail edit as its file has it: what it alters, and in which functions. `rt must-fail` and `rt ci` try them."""
+"""The code of a crate, and a must-fail edit as its file has it: what it alters, and in which functions. `rt must-fail` and
+`rt ci` try them."""
 import re
 
 # a function or a method: its indent, its name and its body
 FUNCTION = re.compile(r'^( *)(?:pub )?(?:extern "C" )?fn (\w+)(?:[^\n]*\{|(?:(?!^\1\}).)*?^\1\{)\n(.*?)^\1\}\n', re.M | re.S)
+
+
+def code_of(path):
+    """What a file of src/ has before its tests, which stand last."""
+    return path.read_text().partition("\n#[cfg(test)]\n")[0] + "\n"
 
 
 class Edit:

@@ -15,7 +15,7 @@ import shutil
 import sys
 import tempfile
 
-from edits import FUNCTION
+from edits import FUNCTION, code_of
 from prover import JOBS, ROOT, Prover
 
 OTHERS = {" + ": [" - "], " - ": [" + "], " * ": [" + "], " / ": [" * "], " % ": [" / "], " <= ": [" < ", " >= "], " < ": [" <= ", " > "],
@@ -55,7 +55,7 @@ def chosen(crate, dice):
     """A mutant of each function that has one, and how many functions have none."""
     mutants, none = [], 0
     for path in sorted((ROOT / "crates" / crate / "src").rglob("*.rt")):
-        for function in FUNCTION.finditer(path.read_text()):
+        for function in FUNCTION.finditer(code_of(path)):
             ways = list(mutations(function[3]))
             none += not ways
             mutants += [Mutant(crate, str(path.relative_to(ROOT / "crates" / crate)), function, dice.choice(ways))] if ways else []

@@ -6,8 +6,11 @@ usage: places.py [--list POINT] [ROOT]      counts, or the places of one point (
 import collections
 import glob
 import os
+import pathlib
 import re
 import sys
+
+from edits import code_of
 
 POINTS = {
     "1a": "own enums of two cases, one of them with a value: the shape of Option or Result",
@@ -58,7 +61,7 @@ def places(root):
         shapes = collections.defaultdict(list)
         outer = crate.startswith(INTERFACE)
         for path in sorted(glob.glob(f"{root}/crates/{crate}/src/*.rt")):
-            text = open(path).read()
+            text = code_of(pathlib.Path(path))
             name = f"{crate}/{os.path.basename(path)}"
 
             def add(point, line, what):

@@ -9,7 +9,7 @@ import pathlib
 import re
 import sys
 
-from edits import FUNCTION, Edit
+from edits import FUNCTION, Edit, code_of
 
 ROOT = pathlib.Path(__file__).resolve().parent.parent
 PAGE = ROOT / "docs" / "PROMISES.md"
@@ -115,7 +115,7 @@ def bodies(crate):
     """{name: the text of the functions of this name} of a crate."""
     found = {}
     for source in sorted((ROOT / "crates" / crate / "src").rglob("*.rt")):
-        for function in FUNCTION.finditer(source.read_text()):
+        for function in FUNCTION.finditer(code_of(source)):
             found[function[2]] = found.get(function[2], "") + function[3]
     return found
 

@@ -30,7 +30,7 @@ counted n h = by n (ltb n 18446744073709551615) refl h
     by n true e h = omega (arith, ltb-true n 18446744073709551615 e)
     by n false e h = omega (arith, ltb-false n 18446744073709551615 e)
 
--- ---- whatever a refusal is given as
+-- ---- with anything in the place of a refusal
 
 -- no line, and one line more
 pub turns-none-by : {R : Type 0} (given : Refusal → R) (d : List ℕ) (t : Result Progress (EndedOf R)) → (progress_over_by given [] d t ≡ t) × (written_over_by given [] d t ≡ d)
@@ -65,7 +65,7 @@ unfolding concat
 tell-by-fits number (Ok p) = lit≤ tt
 tell-by-fits number (Err e) = told-fits number e.line e.fault
 
--- ---- where it is a case of `Refusal`
+-- ---- with the refusal itself
 
 pub turns-none : (d : List ℕ) (t : Result Progress Ended) → (progress_over [] d t ≡ t) × (written_by [] d t ≡ d)
 unfolding progress_over written_by

@@ -11,7 +11,7 @@ use Rattle.enter.specs.Enter.{Fault, entered_by, session_of}
 use Rattle.book.specs.declared.Progress.{Progress}
 use Rattle.book.specs.declared.Ended.{Ended as EndedOf}
 
--- whose refusal is a case of `Refusal`; EndedOf R has a refusal of another type, as any number
+-- with a `Refusal`; EndedOf R has an R in its place
 abbrev pub Ended : Type 0
 Ended = EndedOf Refusal
 
@@ -25,7 +25,7 @@ abbrev pub as_progress : {R : Type 0} → ℕ → Result ℕ (FaultOf R) → Res
 as_progress n (Ok at) = Ok (record { at = at; count = n })
 as_progress n (Err f) = Err (record { line = n; fault = f })
 
--- the line behind those that were read, entered into the session d; a refusal is given as a value of R
+-- the line after those that were read, entered into the session d; `given` is what stands for a refusal in the answer
 abbrev pub progress_by : {R : Type 0} → (Refusal → R) → List ℕ → Progress → List ℕ → Result Progress (EndedOf R)
 progress_by given d p line = as_progress (one_more p.count) (entered_by given d p.at (entry_of line))
 

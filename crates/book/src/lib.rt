@@ -20,7 +20,7 @@ pub struct Progress {
     pub count: u64,
 }
 
-// The line that ended it, and why.
+// The line that ended it, and why. R is `Refusal`, or a number in its place.
 #[derive(Clone, Copy)]
 pub struct Ended<R = Refusal> {
     pub line: u64,
@@ -34,7 +34,7 @@ fn one_more(n: u64) -> u64
     n.saturating_add(1)
 }
 
-// A line, without its newline, behind those that were read. The count stands still at its end, 2^64-1.
+// A line, without its newline, after those that were read. The count stands still at its end, 2^64-1.
 pub fn add(session: &mut [u8], progress: Progress, line: &[u8]) -> Result<Progress, Ended>
     ensures { (result ≡ progress_of session.old progress line.now) × (session.new ≡ session_of session.old progress.at (entry_of line.now)) }
 {
@@ -134,7 +134,7 @@ mod tests {
                 assert_eq!(rt; line, 7);
                 assert_eq!(rt; refusal, Refusal::NotAllowed);
             }
-            _ => assert!(rt; false, "not refused"),
+            _ => assert!(rt; false, "the line was not refused"),
         }
     }
 
@@ -151,7 +151,7 @@ mod tests {
                 assert_eq!(rt; line, 7);
                 assert_eq!(rt; number, 14);
             }
-            _ => assert!(rt; false, "not refused"),
+            _ => assert!(rt; false, "the line was not refused"),
         }
     }
 

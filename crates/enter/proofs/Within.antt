@@ -40,7 +40,7 @@ entered-as : {R : Type 0} (given : Refusal → R) (w : Result ℕ Refusal) (x : 
 entered-as given (Ok n) x e = let w : n ≡ x = cc in ap Ok w
 entered-as given (Err n) x e = absurd (cc)
 
--- whatever a refusal is given as
+-- with anything in the place of a refusal
 pub within-by : {R : Type 0} (given : Refusal → R) (d : List ℕ) (at : ℕ) (e : Result Entry ℕ) (x : ℕ) → at ≤ length d → entered_by given d at e ≡ Ok x → x ≤ length d
 within-by given d at (Ok e) x h p = entry-within d at e x h (entered-as given (entry_written d at e) x p)
 within-by given d at (Err w) x h p = absurd (cc)

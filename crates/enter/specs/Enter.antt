@@ -37,11 +37,11 @@ entry_session d at (E.State t v b s) = buffer_of d at (state_record t v b s)
 entry_session d at (E.Burn t v c) = buffer_of d at (burn_record t v c)
 entry_session d at (E.Mark t v x y) = buffer_of d at (mark_record t v x y)
 
--- whose refusal is a case of `Refusal`; FaultOf R has a refusal of another type, as any number
+-- with a `Refusal`; FaultOf R has an R in its place
 abbrev pub Fault : Type 0
 Fault = FaultOf Refusal
 
--- a refusal is given as a value of R: as it is, or by its number
+-- `given` is what stands for a refusal in the answer: itself, or its number
 abbrev pub as_entered_by : {R : Type 0} → (Refusal → R) → Result ℕ Refusal → Result ℕ (FaultOf R)
 as_entered_by given (Ok n) = Ok n
 as_entered_by given (Err r) = Err (Refused (given r))

@@ -12,7 +12,8 @@ use entry::Entry;
 use records::{burn, mark, offset, state};
 use refusal::Refusal;
 
-// Why a line is not entered: the record that it says is refused, or its first word that cannot be read.
+// Why a line is not entered: a refusal of the record that it says, or the number of its first word that cannot be read. R is
+// `Refusal`, or a number in its place.
 #[derive(Clone, Copy)]
 pub enum Fault<R = Refusal> {
     Refused(R),
@@ -75,7 +76,7 @@ mod tests {
         let mut session = [7u8; 64];
         match enter(&mut session, 0, REFUSED) {
             Err(Fault::Refused(refusal)) => assert_eq!(rt; refusal, Refusal::NotAllowed),
-            _ => assert!(rt; false, "not refused"),
+            _ => assert!(rt; false, "the line was not refused"),
         }
         assert_eq!(rt; session, [7u8; 64]);
     }
@@ -85,7 +86,7 @@ mod tests {
         let mut session = [7u8; 64];
         match enter_by_number(&mut session, 0, REFUSED) {
             Err(Fault::Refused(number)) => assert_eq!(rt; number, 14),
-            _ => assert!(rt; false, "not refused"),
+            _ => assert!(rt; false, "the line was not refused"),
         }
         assert_eq!(rt; session, [7u8; 64]);
     }
@@ -95,7 +96,7 @@ mod tests {
         let mut session = [7u8; 64];
         match enter(&mut session, 0, b"mark 0 1") {
             Err(Fault::Unread(word)) => assert_eq!(rt; word, 4),
-            _ => assert!(rt; false, "read"),
+            _ => assert!(rt; false, "the line was read"),
         }
     }
 }

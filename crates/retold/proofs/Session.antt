@@ -56,7 +56,7 @@ use Rattle.retold.proofs.TwoLines.{comment-skipped}
 abbrev next_line : ℕ → Progress → Progress
 next_line a p = record { at = a; count = one_more p.count }
 
--- a line that was entered leads on, whatever a refusal is given as
+-- a line that was entered leads on, with anything in the place of a refusal
 step : {R : Type 0} (given : Refusal → R) (d : List ℕ) (p : Progress) (l : List ℕ) (ls : List (List ℕ)) (e : Entry) (a : ℕ) (f : List ℕ)
     → entry_of l ≡ Ok e → entry_written d p.at e ≡ Ok a → entry_session d p.at e ≡ f
     → (progress_over_by given (l ∷ ls) d (Ok p) ≡ progress_over_by given ls f (Ok (next_line a p)))
@@ -169,7 +169,7 @@ pub record Same {R : Type 0} (s : List ℕ) (t : Result Progress (EndedOf R)) (e
 same_as_lem : {R : Type 0} {s : List ℕ} {t u : Result Progress (EndedOf R)} {e f : List ℕ} → t ≡ u → e ≡ f → Same s u f → Same s t e
 same_as_lem {s = s} p q x = record { count = x.count; turn = p ∙ x.turn; bytes = ap (take (length s)) q ∙ x.bytes }
 
--- whatever a refusal is given as
+-- with anything in the place of a refusal
 pub again-by : {R : Type 0} (given : Refusal → R) {s : List ℕ} {p : Place} {ls : List (List ℕ)} → Shown s p ls → Bytes s → (d : List ℕ) (k : ℕ)
     → length s ≤ length d → take p.at d ≡ take p.at s
     → Same s (progress_over_by given ls d (Ok (record { at = p.at; count = k }))) (written_over_by given ls d (Ok (record { at = p.at; count = k })))
